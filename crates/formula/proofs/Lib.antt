@@ -1,0 +1,5 @@
+mod Grows
+pub mod Parts
+mod Rows
+pub mod Blocks
+mod Kept

@@ -1,0 +1,4 @@
+pub mod Moves
+pub mod Reading
+pub mod View
+pub mod Kept

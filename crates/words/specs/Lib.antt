@@ -1,0 +1,4 @@
+pub mod Number
+pub mod Text
+pub mod Said
+pub mod Laws
