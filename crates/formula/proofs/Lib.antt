@@ -3,3 +3,4 @@ pub mod Parts
 mod Rows
 pub mod Blocks
 mod Kept
+pub mod WellFormed

@@ -3,7 +3,7 @@ use mathlib.Core.Path.{_≡_}
 use mathlib.Core.Bool.{Bool, true, false, not, _&&_}
 use mathlib.Core.List.{List, [], _∷_}
 use Prim.Native.Nat.{ℕ, _≤_}
-use lib.Dec.{eqb}
+use lib.Dec.{eqb, leb}
 use lib.ListN.{length}
 use Rattle.formula.specs.declared.letter.Literal.{Literal}
 use Rattle.formula.specs.Prefix.{Block, PrefixModel, same-letter, has-var, order, in-range, all-in-range}
@@ -65,3 +65,10 @@ pub record Well-formed (F : Formula) : Type 0 where
   pub few-rows : F .due ≤ 4096
   pub few-literals : length (all-literals (F .rows)) ≤ 16384
   pub rows-are : rows-good (order (F .blocks)) (F .rows) ≡ true
+
+-- the same as one test
+abbrev pub well-formed : Formula → Bool
+well-formed F =
+    leb (F .size) 1024 && (leb (length (F .blocks)) 64 && (alternating (F .blocks) && (none-empty (F .blocks)
+    && (all-in-range (F .size) (order (F .blocks)) && (distinct (order (F .blocks)) && (eqb (length (F .rows)) (F .due)
+    && (leb (F .due) 4096 && (leb (length (all-literals (F .rows))) 16384 && rows-good (order (F .blocks)) (F .rows)))))))))

@@ -4,6 +4,9 @@ mod methods;
 ghost use mathlib.Core.Path.{_≡_};
 ghost use mathlib.Core.Bool.{true};
 ghost use denote.Ref.{now as behind};
+ghost use Rattle.formula.specs.Formula.{well-formed};
+ghost use Rattle.qdimacs.specs.Reading.{left-formula};
+ghost use Rattle.qdimacs.specs.View.{state-of};
 use crate::draft::Draft;
 
 // What is read of a text, and whether the text was accepted.
@@ -11,6 +14,7 @@ use crate::draft::Draft;
 pub struct Formula {
     draft: Draft,
     sealed: bool,
+    ghost whole: { (sealed ≡ true → well-formed (left-formula (state-of draft)) ≡ true) },
 }
 
 // A formula whose reading was accepted. Only `Formula::sealed` makes one, and while it stands the formula cannot be read anew.

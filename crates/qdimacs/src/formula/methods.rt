@@ -4,6 +4,7 @@ ghost use lib.ListN.{length};
 ghost use Rattle.std.specs.Options.{Cases, isSome, mapped};
 ghost use Rattle.std.specs.Results.{isOk};
 ghost use Rattle.std.specs.shelf.Maps.{nth};
+ghost use Rattle.formula.specs.Formula.{Well-formed};
 ghost use Rattle.formula.specs.Matrix.{all-literals};
 ghost use Rattle.formula.specs.Prefix.{level as level-of, order as prefix-order, owner as owner-of};
 ghost use Rattle.qdimacs.specs.Reading.{left-formula, nothing, reading};
@@ -45,6 +46,7 @@ impl Formula {
     pub fn sealed(&self) -> Option<Sealed<'_>>
         ensures test { λ r. ⌜ isSome r ≡ now (self .entry) .sealed ⌝ }
         ensures same { λ r. ⌜ Cases r (Unit {0}) (λ s. sealed-formula s ≡ formula-of (now (self .entry))) ⌝ }
+        ensures well { λ r. ⌜ Cases r (Unit {0}) (λ s. Well-formed (sealed-formula s)) ⌝ }
     {
         if self.sealed {
             Some(Sealed { formula: self })
