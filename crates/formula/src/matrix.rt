@@ -1,5 +1,6 @@
 // The rows of a formula, in room of their own.
 mod methods;
+mod sizes;
 
 ghost use mathlib.Core.Path.{_≡_};
 ghost use Prim.Native.Nat.{_≤_};

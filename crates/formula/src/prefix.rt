@@ -1,5 +1,6 @@
 // The prefix of a formula, in room of its own.
 mod methods;
+mod sizes;
 
 ghost use mathlib.Core.Path.{_≡_};
 ghost use mathlib.Core.Bool.{true};

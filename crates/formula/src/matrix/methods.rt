@@ -113,13 +113,6 @@ impl Matrix {
         Ok(())
     }
 
-    // How many complete rows there are.
-    pub fn rows(&self) -> usize
-        ensures { λ r. ⌜ r ≡ length (matrix-of (now (self .entry)) .rows) ⌝ }
-    {
-        self.rows
-    }
-
     // Where the row i begins among the literals, if there are so many.
     fn row_start(&self, i: usize) -> usize
         requires { ⌜ i ≤ now self .rows ⌝ }

@@ -158,20 +158,6 @@ impl Prefix {
         Ok(())
     }
 
-    // n.
-    pub fn variables(&self) -> usize
-        ensures { λ r. ⌜ r ≡ prefix-of (now (self .entry)) .size ⌝ }
-    {
-        self.variables
-    }
-
-    // How many blocks there are.
-    pub fn blocks(&self) -> usize
-        ensures { λ r. ⌜ r ≡ length (prefix-of (now (self .entry)) .blocks) ⌝ }
-    {
-        self.blocks
-    }
-
     // A variable's level, the place of its block from 1; 0 where no complete block has it. In constant time.
     pub fn level(&self, variable: u32) -> usize
         ensures value { λ r. ⌜ r ≡ level-of (prefix-of (now (self .entry)) .blocks) variable ⌝ }
@@ -191,13 +177,6 @@ impl Prefix {
         } else {
             Some(self.ends[level - 1].letter)
         }
-    }
-
-    // How many variables the complete blocks bind.
-    pub fn order_len(&self) -> usize
-        ensures { λ r. ⌜ r ≡ length (prefix-order (prefix-of (now (self .entry)) .blocks)) ⌝ }
-    {
-        self.start
     }
 
     // The variable at place i of the prefix order, counted from 0. In constant time.
