@@ -36,6 +36,7 @@ use Rattle.qdimacs.specs.declared.phase.Fault.{Fault}
 use Rattle.qdimacs.specs.Moves.{misplaced, not-a-number, foreign-byte, bad-head, decide, due, row-number}
 use Rattle.qdimacs.specs.Reading.{State, apply, step, in-phase, with-prefix, with-matrix, by-layer, in-block, in-row, opened, named, lacks, run, stopped, reading, nothing, Outcome, left-formula}
 use Rattle.qdimacs.specs.Grammar.{letter-byte, literal-number, literal-word, variable-word, zero-word, head-words, block-words, row-words, formula-words, lexemes, Writes}
+use Rattle.qdimacs.specs.Refused.{bare}
 use Rattle.qdimacs.specs.Written.{complete-words, written, written-by, Begun, Good, Sound}
 use Rattle.qdimacs.proofs.Lists.{no-ok, no-some, same-ok, order-push, distinct-push, alternating-push, filled-push, row-bound-push, row-distinct-push, rows-good-push, bound-one, ended-block, nameable, added-literal, ended-row}
 
@@ -380,11 +381,8 @@ next Row p m (stray bs) n g e = absurd (no-ok (clean (st Row p m) n bs (due Row 
 
 -- ---- all words
 
-bare : List (ℕ × Lexeme) → List Lexeme
-bare ts = map (λ (t : ℕ × Lexeme). t .1) ts
-
 -- nothing is read
-start-good : Good Start (unbound 0) (no-rows 0)
+pub start-good : Good Start (unbound 0) (no-rows 0)
 start-good = record { begun = (refl, refl); sound = head-sound 0 0 (omega arith) (omega arith) }
 
 -- all words were read, and nothing is lacking
@@ -395,7 +393,6 @@ pub record Ended (front : List Lexeme) (ts : List Lexeme) (left : State) : Type 
 
 run-ended : (stop : ℕ) (ts : List (ℕ × Lexeme)) (s : State) → Good (s .phase) (s .prefix) (s .matrix) → run stop s ts .refusal ≡ None
     → Ended (written-by s) (bare ts) (run stop s ts .left)
-unfolding bare
 run-ended stop [] s g e = by (lacks s) refl e
   where
     by : (o : Option Fault) → lacks s ≡ o → stopped s stop o .refusal ≡ None → Ended (written-by s) [] (stopped s stop o .left)
@@ -458,7 +455,6 @@ whole Rows p m g full = (refl, well p m (g .sound) (g .begun .0) (all-rows m ful
 
 -- the text is accepted: it writes the formula that is left
 pub accepted : (text : List ℕ) → reading text .refusal ≡ None → Writes text (left-formula (reading text .left))
-unfolding bare
 accepted text e = by (leb (length text) 65536) refl e
   where
     outcome : Bool → Outcome

@@ -4,3 +4,4 @@ pub mod View
 pub mod Kept
 pub mod Grammar
 pub mod Written
+pub mod Refused

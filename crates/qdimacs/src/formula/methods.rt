@@ -7,6 +7,8 @@ ghost use Rattle.std.specs.shelf.Maps.{nth};
 ghost use Rattle.formula.specs.Formula.{Well-formed};
 ghost use Rattle.formula.specs.Matrix.{all-literals};
 ghost use Rattle.formula.specs.Prefix.{level as level-of, order as prefix-order, owner as owner-of};
+ghost use Rattle.qdimacs.specs.Grammar.{Exact};
+ghost use Rattle.qdimacs.specs.Refused.{Stopped};
 ghost use Rattle.qdimacs.specs.Reading.{left-formula, nothing, reading};
 ghost use Rattle.qdimacs.specs.Kept.{formula-of, sealed-formula};
 ghost use Rattle.qdimacs.specs.View.{refusal-of};
@@ -32,6 +34,8 @@ impl Formula {
     // Reads a text, from nothing, and seals the formula if the text is accepted.
     // A refused text leaves the head, the blocks and the rows that were complete before the refusal, and no seal.
     pub fn read(&mut self, text: &[u8]) -> Result<(), Refusal>
+        ensures exact { λ r. ⌜ Exact (now (text .entry)) r (formula-of (now (self .exit))) ⌝ }
+        ensures stops { λ r. ⌜ Stopped (now (text .entry)) r (reading (now (text .entry)) .left) ⌝ }
         ensures left { λ _. ⌜ formula-of (now (self .exit)) ≡ left-formula (reading (now (text .entry)) .left) ⌝ }
         ensures refusal { λ r. ⌜ refusal-of r ≡ reading (now (text .entry)) .refusal ⌝ }
         ensures seal { λ r. ⌜ now (self .exit) .sealed ≡ isOk r ⌝ }
