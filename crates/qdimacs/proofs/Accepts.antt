@@ -33,7 +33,8 @@ use Rattle.qdimacs.specs.declared.phase.Fault.{Fault}
 use Rattle.qdimacs.specs.Moves.{decide, row-number}
 use Rattle.qdimacs.specs.Reading.{State, Outcome, nothing, in-phase, with-matrix, in-block, opened, apply, step, lacks, stopped, run, reading, left-formula}
 use Rattle.qdimacs.specs.Grammar.{Writes, letter-byte, literal-number, zero-word, variable-word, literal-word, head-words, block-words, row-words, formula-words, lexemes}
-use Rattle.qdimacs.proofs.Lists.{no-some, order-push}
+use Rattle.qdimacs.specs.Refused.{bare}
+use Rattle.qdimacs.proofs.Lists.{no-some, order-push, literals-push, same-letter-sym}
 
 -- ---- lists of variables
 
@@ -79,16 +80,7 @@ row-new row rest l once =
     ∙ distinct-new (variables-of row) (variables-of rest) (l .variable)
     (sym (row-distinct-is (row ++ l ∷ rest) ∙ ap distinct (map-append (λ (k : Literal). k .variable) row (l ∷ rest))) ∙ once)
 
-pub literals-push : (done : List (List Literal)) (row : List Literal) → all-literals (done ++ row ∷ []) ≡ all-literals done ++ row
-literals-push done row = sym (joined-more (λ (r : List Literal). r) [] done row)
-
 -- ---- lists of blocks
-
-same-letter-sym : (k l : Letter) → same-letter k l ≡ same-letter l k
-same-letter-sym Universal Universal = refl
-same-letter-sym Universal Existential = refl
-same-letter-sym Existential Universal = refl
-same-letter-sym Existential Existential = refl
 
 -- where neighbours differ, the block before does not have the letter of the next
 pub ends-other : (done bs : List BlockModel) (b : BlockModel) → alternating (done ++ b ∷ bs) ≡ true → ends-in (b .letter) done ≡ false
@@ -276,9 +268,6 @@ module _ (n m : ℕ) (blocks : List BlockModel) where
         ∙ ap (λ l. Some (in-rows (last-phase Rows rows) l [])) (append-assoc done (row ∷ []) rows)
 
 -- ---- a whole text
-
-abbrev bare : List (ℕ × Lexeme) → List Lexeme
-bare ts = map (λ (t : ℕ × Lexeme). t .1) ts
 
 -- words that lead to a state: the reading goes through them to that state, and looks there for what is lacking
 run-after : (end : ℕ) (ts : List (ℕ × Lexeme)) (s last : State) → after s (bare ts) ≡ Some last → run end s ts ≡ stopped last end (lacks last)

@@ -38,7 +38,7 @@ use Rattle.qdimacs.specs.Reading.{State, apply, step, in-phase, with-prefix, w
 use Rattle.qdimacs.specs.Grammar.{letter-byte, literal-number, literal-word, variable-word, zero-word, head-words, block-words, row-words, formula-words, lexemes, Writes}
 use Rattle.qdimacs.specs.Refused.{bare}
 use Rattle.qdimacs.specs.Written.{complete-words, written, written-by, Begun, Good, Sound}
-use Rattle.qdimacs.proofs.Lists.{no-ok, no-some, same-ok, order-push, distinct-push, alternating-push, filled-push, row-bound-push, row-distinct-push, rows-good-push, bound-one, ended-block, nameable, added-literal, ended-row}
+use Rattle.qdimacs.proofs.Lists.{no-ok, no-some, same-ok, order-push, literals-push, distinct-push, alternating-push, filled-push, row-bound-push, row-distinct-push, rows-good-push, bound-one, ended-block, nameable, added-literal, ended-row}
 
 abbrev st : Phase → PrefixModel → MatrixModel → State
 st ph p m = record { phase = ph; prefix = p; matrix = m }
@@ -256,10 +256,6 @@ row-written p m =
     ∙ sym (append-assoc head ((blocks ++ rows) ++ begun) (zero-word ∷ []))
     ∙ ap (λ ts. ts ++ zero-word ∷ []) (sym (append-assoc head (blocks ++ rows) begun))
 
--- all literals of one row more
-literals-push : (rs : List (List Literal)) (r : List Literal) → length (all-literals (rs ++ r ∷ [])) ≡ length (all-literals rs) + length r
-literals-push rs r = ap length (sym (joined-more (λ (k : List Literal). k) [] rs r)) ∙ length-append (all-literals rs) r
-
 module _ (ph : Phase) (p : PrefixModel) (m : MatrixModel) (n : State) (s : Sound p m) (closed : p .begun ≡ []) where
   -- the end of a row
   at-row-end : in-row Rows (st ph p m) (end-row m) ≡ Ok n → Next (row-front p m) zero-word n
@@ -282,7 +278,7 @@ module _ (ph : Phase) (p : PrefixModel) (m : MatrixModel) (n : State) (s : Sound
                 once = s .once;
                 few-rows = s .few-rows;
                 rows-due = omega (arith, length-push (m .rows) (m .begun), f .0);
-                few-literals = omega (arith, literals-push (m .rows) (m .begun), s .few-literals);
+                few-literals = omega (arith, ap length (literals-push (m .rows) (m .begun)), length-append (all-literals (m .rows)) (m .begun), s .few-literals);
                 rows-are = rows-good-push (order (p .blocks)) (m .rows) (m .begun) (s .rows-are) (s .row-bound-is) (s .row-once);
                 row-bound-is = refl;
                 row-once = refl;

@@ -37,6 +37,9 @@ same-ok e = cc
 pub order-push : (bs : List Block) (b : Block) → order (bs ++ b ∷ []) ≡ order bs ++ b .vars
 order-push bs b = sym (joined-more (λ (c : Block). c .vars) [] bs b)
 
+pub literals-push : (done : List (List Literal)) (row : List Literal) → all-literals (done ++ row ∷ []) ≡ all-literals done ++ row
+literals-push done row = sym (joined-more (λ (r : List Literal). r) [] done row)
+
 pub distinct-push : (xs : List ℕ) (x : ℕ) → distinct xs ≡ true → has-var xs x ≡ false → distinct (xs ++ x ∷ []) ≡ true
 distinct-push [] x once new = refl
 distinct-push (z ∷ xs) x once new =
@@ -46,15 +49,16 @@ distinct-push (z ∷ xs) x once new =
     (not-from-false _ (has-append xs (x ∷ []) z ∙ or-from _ _ (not-true _ (both .0)) (or-from (eqb x z) false (ne-eqb x z (λ s. eqb-false z x (apart .0) (sym s))) refl)))
     (distinct-push xs x (both .1) (apart .1))
 
+pub same-letter-sym : (k l : Letter) → same-letter k l ≡ same-letter l k
+same-letter-sym Universal Universal = refl
+same-letter-sym Universal Existential = refl
+same-letter-sym Existential Universal = refl
+same-letter-sym Existential Existential = refl
+
 pub alternating-push : (bs : List Block) (b : Block) → alternating bs ≡ true → ends-in (b .letter) bs ≡ false → alternating (bs ++ b ∷ []) ≡ true
 alternating-push [] b turns other = refl
-alternating-push (c ∷ []) b turns other = and-from (not (same-letter (c .letter) (b .letter))) true (not-from-false _ (swap (c .letter) (b .letter) ∙ other)) refl
-  where
-    swap : (k l : Letter) → same-letter k l ≡ same-letter l k
-    swap Universal Universal = refl
-    swap Universal Existential = refl
-    swap Existential Universal = refl
-    swap Existential Existential = refl
+alternating-push (c ∷ []) b turns other =
+    and-from (not (same-letter (c .letter) (b .letter))) true (not-from-false _ (same-letter-sym (c .letter) (b .letter) ∙ other)) refl
 alternating-push (c ∷ d ∷ bs) b turns other =
     let both = and-parts (not (same-letter (c .letter) (d .letter))) (alternating (d ∷ bs)) turns in
     and-from _ _ (both .0) (alternating-push (d ∷ bs) b (both .1) other)
