@@ -54,7 +54,7 @@ impl Matrix {
     pub fn is_complete(&self) -> bool
         ensures { λ r. ⌜ r ≡ complete (matrix-of (now (self .entry))) ⌝ }
     {
-        self.rows >= self.due
+        self.rows() >= self.due
     }
 
     // What forbids a literal in the row that is being read, room aside.
