@@ -62,3 +62,38 @@ pub fn run_formula(rt: &LibcRuntime) -> io::Result<()> {
     let text = contents(rt, FORMULA_FILE)?;
     rt.println(formula_line(rt.alloc(), text.as_slice())?)
 }
+
+#[cfg(test)]
+mod tests {
+    use super::*;
+    use formula::letter::Letter;
+    use formula::letter::LetterDebug;
+    use formula::letter::LetterPartialEq;
+    use std::test::*;
+
+    const CLAUSES: &[u8] = b"p cnf 4 4 e 1 0 a 2 0 e 3 4 0 1 2 3 0 -1 -2 4 0 -3 0 -4 0";
+
+    #[test]
+    fn worked_formulas_are_read(rt: LibcRuntime) -> Result<(), Fail> {
+        let clauses = formula_line(rt.alloc(), CLAUSES)?;
+        check(clauses.as_str() == "read 4 3 4 8")?;
+        let cubes = formula_line(rt.alloc(), b"p cnf 2 2 a 1 0 e 2 0 1 2 0 -1 -2 0")?;
+        check(cubes.as_str() == "read 2 2 2 4")?;
+        let refused = formula_line(rt.alloc(), b"p cnf 2 1 e 1 0 2 0")?;
+        check(refused.as_str() == "refused 9 16")
+    }
+
+    #[test]
+    fn look_ups_of_a_sealed_formula() -> Result<(), Fail> {
+        let mut formula = Formula::new();
+        check(formula.sealed().is_none())?;
+        check(formula.read(CLAUSES).is_ok())?;
+        let sealed = formula.sealed().ok_or("sealed")?;
+        check_eq(sealed.level(2), 2)?;
+        check_eq(sealed.level(4), 3)?;
+        check_eq(sealed.level(5), 0)?;
+        check_eq(sealed.owner(2), Some(Letter::Universal))?;
+        check_eq(sealed.order_at(3), Some(4))?;
+        check_eq(sealed.rows(), 4)
+    }
+}
