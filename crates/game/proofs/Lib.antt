@@ -1,0 +1,16 @@
+pub mod Records
+pub mod Lowest
+pub mod Phases
+pub mod Replies
+pub mod Down
+pub mod Leaf
+pub mod Game
+pub mod Growth
+pub mod Prefix
+pub mod Merge
+pub mod RulesAgree
+pub mod Leaves
+pub mod Grounds
+pub mod Steps
+pub mod NeverBoth
+pub mod Examples

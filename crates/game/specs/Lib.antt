@@ -1,0 +1,11 @@
+pub mod Records
+pub mod Rules
+pub mod Plays
+pub mod Game
+pub mod Leaves
+pub mod Functions
+pub mod Prefix
+pub mod Grounds
+pub mod Steps
+pub mod Theorems
+pub mod Examples
