@@ -12,7 +12,7 @@ use Rattle.formula.specs.Prefix.{Block}
 use Rattle.formula.specs.Formula.{Formula, well-formed}
 use Rattle.game.specs.Records.{Side, Mark, Plus, Minus, Star, Entry, Record}
 use Rattle.game.specs.Rules.{Origin, Leaf, Resolve, Reduce, Step}
-use Rattle.game.specs.Plays.{all-steps, lowest-empty, reply, witness}
+use Rattle.game.specs.Plays.{all-steps, wholly, lowest-empty, reply, witness}
 use Rattle.game.specs.Game.{value}
 use Rattle.game.specs.Prefix.{side}
 use Rattle.game.specs.Leaves.{marked}
@@ -131,6 +131,9 @@ pub record Examples : Type 0 where
   pub chose-0′ : reply S D′ all-steps 9 (value (0 ∷ 2 ∷ 2 ∷ 2 ∷ [])) 2 ≡ (0, 6)
   pub chose-1′ : reply S D′ all-steps 9 (value (1 ∷ 2 ∷ 2 ∷ 2 ∷ [])) 2 ≡ (1, 8)
   pub nobody-chose : reply S D′ all-steps 9 (value (2 ∷ 2 ∷ 2 ∷ 2 ∷ [])) 2 ≡ (0, 0)
+  -- a play that does not follow the replies may meet no leaf step, though it meets step 6
+  pub no-witness : witness S D′ all-steps 9 (value (0 ∷ 1 ∷ 0 ∷ 0 ∷ [])) ≡ 0
+  pub met-6 : wholly S D′ (value (0 ∷ 1 ∷ 0 ∷ 0 ∷ [])) 6 ≡ true
   -- the tail goes by level, not by number: prefix e2 a1
   pub by-level : reduce-rule (side Universal (block Existential (2 ∷ []) ∷ block Universal (1 ∷ []) ∷ [])) record-5 ≡ Ok (is 2 Plus ∷ [])
   -- what the rules forbid
