@@ -70,9 +70,6 @@ level-push l [] b x = ap (λ n. cond (has-var (b .vars) x) n 0) (omega arith)
 level-push l (c ∷ bs) b x =
     by (has-var (c .vars) x) refl (level-push (l + 1) bs b x) ∙ sym (ap (λ t. cond t (level-from l (c ∷ bs) x) (cond (has-var (b .vars) x) (l + length (c ∷ bs)) 0)) (has-append (c .vars) (order bs) x))
   where
-    here : Bool → ℕ → ℕ
-    here t rest = cond t l rest
-
     by : (t : Bool) → has-var (c .vars) x ≡ t
         → level-from (l + 1) (bs ++ b ∷ []) x ≡ cond (has-var (order bs) x) (level-from (l + 1) bs x) (cond (has-var (b .vars) x) (l + 1 + length bs) 0)
         → cond (has-var (c .vars) x) l (level-from (l + 1) (bs ++ b ∷ []) x)
@@ -109,9 +106,6 @@ range-push n (z ∷ xs) x all one =
 -- ---- the variables of the blocks
 
 module _ (ends : List BlockEnd) (xs : List ℕ) (start : ℕ) (lie : Blocks-lie ends start (length xs)) where
-  last : ℕ
-  last = last-end block-end 0 ends
-
   -- the prefix order is what stands before the block that is being read
   pub order-kept : order (blocks-in ends xs) ≡ take start xs
   order-kept =
@@ -332,9 +326,6 @@ level-none bs x out = eqb-true (level bs x) 0 (level-zero 1 bs x (omega arith) �
 
 -- a mark that counts a complete block is the level; any other says that there is none
 module _ (bs : List Block) (begun : List ℕ) (x : ℕ) where
-  mark : ℕ
-  mark = level (with-begun bs begun) x
-
   told-by : level (with-begun bs begun) x ≡ cond (has-var (order bs) x) (level bs x) (cond (has-var begun x) (1 + length bs) 0)
   told-by = level-push 1 bs (record { letter = Universal; vars = begun }) x
 

@@ -4,7 +4,7 @@ ghost use lib.ListN.{length};
 ghost use Rattle.std.specs.Results.{Cases};
 ghost use Rattle.std.specs.shelf.Maps.{nth};
 ghost use Rattle.std.specs.declared.option.Option.the-variants.{None};
-ghost use Rattle.formula.specs.Prefix.{bind as bound-one, end-block, ends-in, in-range, level as level-of, level-so-far, no-block, order as prefix-order, owner as owner-of, unbindable, unbound, unnameable, with-block, with-var};
+ghost use Rattle.formula.specs.Prefix.{bind as bound-one, end-block, ends-in, in-range, level as level-of, level-so-far, no-block, order as prefix-order, owner as owner-of, unbindable, unbound, unnameable, with-var};
 ghost use Rattle.formula.specs.Told.{told};
 ghost use Rattle.formula.specs.View.{prefix-of};
 use super::Prefix;

@@ -1,0 +1,5 @@
+mod Bound
+mod Codes
+mod Counted
+mod Turns
+mod Same
