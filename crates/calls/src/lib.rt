@@ -1,5 +1,7 @@
 // What each call on a docket answers and leaves, as definitions, and what is assured of every docket that the calls lead to. The
 // functions here do nothing, and the contract of each is a theorem; the calls themselves are code of the crate `docket`.
+#![tactic(auto)]
+
 ghost use Rattle.calls.specs.Assured.{DocketsAssured};
 ghost use Rattle.calls.specs.Exact.{StepsExact};
 ghost use Rattle.calls.specs.Examples.{StepExamples};

@@ -1,15 +1,15 @@
 -- The lowest step with an empty record, looked for step by step.
-use Rattle.std.proofs.Common.{◌≡◌, ℕ, suc, ◌+◌, ◌-◌, ◌<◌, ◌≤◌, Bool, true, false, eqb, List, [], ◌∷◌, length, get_or, take, drop, Some, sym, refl, ap, ◌∙◌, subst, inl, inr, arith}
-use Rattle.std.specs.List.{between, slice_get}
+use Rattle.std.proofs.Common.{◌≡◌, ℕ, suc, ◌+◌, ◌-◌, ◌<◌, ◌≤◌, Bool, true, false, eqb, List, [], ◌∷◌, length, get_or, take, drop, sym, refl, ap, ◌∙◌, subst, inl, inr, arith}
+use Rattle.std.specs.List.{between}
 use Rattle.std.proofs.lemmas.List.{length-take-le, length-drop}
 use Rattle.std.proofs.lemmas.Option.{slice_get-get_or}
-use Rattle.std.proofs.lemmas.Bool.{cases_eq, eqb-true}
+use Rattle.std.proofs.lemmas.Bool.{cases_eq}
 use Rattle.std.proofs.lemmas.Bool.Decides.{nat_tests}
 use Rattle.formula.specs.Cuts.{last_end}
 use Rattle.game.specs.declared.record.Entry.{Entry}
 use Rattle.game.specs.Records.{Record}
 use Rattle.game.specs.Rules.{Step, no_step}
-use Rattle.game.specs.Plays.{is_empty, lowest, Lowest, NonePasses}
+use Rattle.game.specs.Plays.{is_empty, lowest, NonePasses}
 use Rattle.game.proofs.Lowest.{lowest_cases, lowest_is}
 use Rattle.docket.specs.declared.stored.StoredStep.{StoredStep}
 use Rattle.docket.specs.Stored.{step_end, steps_in, StepsLie}

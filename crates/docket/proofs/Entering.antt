@@ -1,6 +1,6 @@
 -- One step more in memory is one step more of the docket.
-use Rattle.std.proofs.Common.{◌≡◌, ℕ, ◌+◌, ◌-◌, ◌<◌, ◌≤◌, true, List, [], ◌∷◌, ◌++◌, length, Ok, sym, refl, ap, ◌∙◌, subst, ap₂, arith}
-use Rattle.std.proofs.lemmas.List.{length-append, length_push, length-drop}
+use Rattle.std.proofs.Common.{◌≡◌, ℕ, ◌+◌, ◌<◌, ◌≤◌, true, List, [], ◌∷◌, ◌++◌, length, Ok, sym, refl, ap, ◌∙◌, ap₂, arith}
+use Rattle.std.proofs.lemmas.List.{length-append, length-drop}
 use Rattle.table.specs.declared.slab.Table.{Table}
 use Rattle.table.specs.Entries.{entries, free, Grown}
 use Rattle.game.specs.declared.record.Entry.{Entry}
@@ -31,13 +31,11 @@ module _ {steps steps' : Table StoredStep} {marks marks' : Table Entry} {o : Ori
 
   -- the docket's invariants
   pub entered_kept : all_rise (steps_in (entries steps) (entries marks)) ≡ true → rises 0 r ≡ true → places steps ≤ 4096
-      → StepsLie (entries steps') (length (entries marks')) × ((all_rise (steps_in (entries steps') (entries marks')) ≡ true) × ((places steps' ≤ 4096) × Unit {0}))
+      → StepsLie (entries steps') (length (entries marks')) × (all_rise (steps_in (entries steps') (entries marks')) ≡ true) × (places steps' ≤ 4096)
   entered_kept up last few = (
     rw (stored.longer, appended.longer) (lie_push (entries steps) (entries marks) lie s r ends_behind),
-    (
-      rw (stored.longer, appended.longer) (rise_push (entries steps) (entries marks) lie s r ends_behind up last),
-      (omega (arith, grown_places steps steps' (s ∷ []) stored room), tt),
-    ),
+    rw (stored.longer, appended.longer) (rise_push (entries steps) (entries marks) lie s r ends_behind up last),
+    omega (arith, grown_places steps steps' (s ∷ []) stored room),
   )
 
   -- what the call answers and leaves

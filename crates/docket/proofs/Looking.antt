@@ -1,7 +1,7 @@
 -- A variable looked for in a record that rises, by halving.
-use Rattle.std.proofs.Common.{◌≡◌, ℕ, zero, suc, ◌+◌, ◌<◌, ◌≤◌, true, List, [], ◌∷◌, length, get_or, sym, refl, ap, ◌∙◌, subst, inl, inr, arith}
+use Rattle.std.proofs.Common.{◌≡◌, ℕ, zero, suc, ◌+◌, ◌<◌, ◌≤◌, true, [], ◌∷◌, length, get_or, sym, refl, ap, ◌∙◌, subst, inl, inr, arith}
 use Rattle.std.proofs.lemmas.Bool.{cases_eq, cases_lt, ne_eqb}
-use Rattle.game.specs.Records.{Record, Found, absent, has, found, Above}
+use Rattle.game.specs.Records.{Record, absent, has, found, Above}
 use Rattle.game.proofs.Merge.{entries_found}
 use Rattle.docket.specs.Stored.{rises, blank}
 use Rattle.docket.proofs.Steps.{rises_above}

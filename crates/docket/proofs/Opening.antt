@@ -1,5 +1,5 @@
 -- A docket without steps.
-use Rattle.std.proofs.Common.{◌≡◌, ℕ, ◌+◌, ◌≤◌, min, true, List, [], length, take, sym, refl, ap, ◌∙◌, ap₂, arith, length-take}
+use Rattle.std.proofs.Common.{◌≡◌, ℕ, ◌≤◌, min, true, List, [], length, take, refl, ap, arith, length-take}
 use Rattle.table.specs.declared.slab.Table.{Table}
 use Rattle.table.specs.Entries.{entries, free}
 use Rattle.game.specs.declared.record.Entry.{Entry}

@@ -1,5 +1,5 @@
 -- What a reduce appends is the parent's record without its tail.
-use Rattle.std.proofs.Common.{◌≡◌, ℕ, Bool, true, sym, ap, ◌∙◌, subst, ap₂}
+use Rattle.std.proofs.Common.{◌≡◌, ℕ, Bool, true, ap, ◌∙◌, ap₂}
 use Rattle.game.specs.Records.{Side, Record, ceiling}
 use Rattle.game.specs.Functions.{kept, reduced}
 use Rattle.game.proofs.Merge.{kept_above}

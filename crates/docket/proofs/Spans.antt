@@ -1,17 +1,16 @@
 -- Where the record of a step lies.
-use Rattle.std.proofs.Common.{◌≡◌, ℕ, zero, suc, pred, ◌+◌, ◌-◌, ◌<◌, ◌≤◌, true, false, ◌&&◌, leb, List, [], ◌∷◌, length, get_or, take, Some, None, Option, sym, refl, ap, ◌∙◌, subst, ap₂, inl, inr, sub-one, arith}
+use Rattle.std.proofs.Common.{◌≡◌, ℕ, zero, suc, ◌-◌, ◌<◌, ◌≤◌, leb, List, [], ◌∷◌, length, get_or, take, Some, None, sym, ap, ◌∙◌, inl, inr, sub-one, arith}
 use Rattle.std.specs.List.{between, slice_get}
 use Rattle.std.proofs.lemmas.Option.{slice_get-get_or, slice_get_past}
 use Rattle.std.proofs.lemmas.Bool.{cases_lt, and_from, and_right, le-leb, lt-leb}
 use Rattle.formula.specs.Cuts.{last_end}
-use Rattle.formula.proofs.Parts.{nth_cut, climbs_at, last_at}
+use Rattle.formula.proofs.Parts.{nth_cut, climbs_at}
 use Rattle.game.specs.declared.record.Entry.{Entry}
-use Rattle.game.specs.Rules.{Step, no_step, marks_of}
-use Rattle.docket.specs.declared.stored.Span.{Span}
+use Rattle.game.specs.Rules.{Step, no_step}
 use Rattle.docket.specs.declared.stored.StoredStep.{StoredStep}
 use Rattle.docket.specs.declared.docket.Docket.{Docket}
 use Rattle.docket.specs.Stored.{step_end, as_step, steps_in, StepsLie}
-use Rattle.docket.specs.Models.{docket_of, LiesIn, Lies}
+use Rattle.docket.specs.Models.{Lies}
 use Rattle.docket.proofs.Steps.{step_count}
 use Rattle.table.specs.Entries.{entries}
 

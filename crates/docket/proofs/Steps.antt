@@ -1,9 +1,8 @@
 -- Steps as they are kept: how many, all their marks, one step more.
-use Rattle.std.proofs.Common.{◌≡◌, ℕ, zero, suc, ◌+◌, ◌-◌, ◌<◌, ◌≤◌, true, ◌&&◌, ltb, leb, List, [], ◌∷◌, ◌++◌, length, get_or, take, drop, sym, refl, ap, ◌∙◌, subst, ap₂, arith}
-use Rattle.std.proofs.lemmas.List.{length-append, length_push, take_all, drop_at, take_at}
+use Rattle.std.proofs.Common.{◌≡◌, ℕ, zero, suc, ◌-◌, true, ltb, List, [], ◌∷◌, ◌++◌, length, get_or, take, sym, refl, ap, ◌∙◌, ap₂, arith}
+use Rattle.std.proofs.lemmas.List.{length-append, take_all, drop_at}
 use Rattle.std.proofs.lemmas.Bool.{and_parts, and_from, ltb-true, lt-ltb}
-use Rattle.std.proofs.lemmas.Bool.Decides.{nat_tests}
-use Rattle.formula.specs.Cuts.{part, cut, last_end}
+use Rattle.formula.specs.Cuts.{last_end}
 use Rattle.formula.proofs.Parts.{cut_grown, cut_push, length_cut, joined_cut, last_push, climbs_push}
 use Rattle.game.specs.declared.record.Entry.{Entry}
 use Rattle.game.specs.Records.{Record, Above}

@@ -1,4 +1,6 @@
 // A docket on the caller's memory: the steps of a trace are checked and entered one by one, and close gives the verdict.
+#![tactic(auto)]
+
 mod docket;
 mod leaves;
 mod look;

@@ -17,10 +17,10 @@ pub(crate) struct Side<'a> {
 }
 
 // The game of the formula as the ground's side sees it.
-pub(crate) fn side_at<'a, G: Ground>(formula: &Sealed<'a>, ground: &G) -> Side<'a>
-    ensures { seen result ≡ side_at (sealed_formula formula.now) (G.Ground.meaning ground.now) }
+pub(crate) fn side_at<'a, G: Ground>(formula: &Sealed<'a>, own_ground: &G) -> Side<'a>
+    ensures { seen result ≡ side_at (sealed_formula formula.now) (G.Ground.meaning own_ground.now) }
 {
-    let _ = ground;
+    let _ = own_ground;
     Side {
         formula: *formula,
         own: G::OWN.letter(),

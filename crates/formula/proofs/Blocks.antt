@@ -1,17 +1,16 @@
 -- Blocks as they are kept: levels, one variable more, one block more. Assumes nothing.
-use Rattle.std.proofs.Common.{◌≡◌, ℕ, zero, suc, ◌+◌, ◌-◌, ◌<◌, ◌≤◌, Bool, true, false, cond, not, ◌&&◌, ◌||◌, eqb, leb, ◌⊎◌, List, [], ◌∷◌, ◌++◌, length, get_or, take, drop, set, replicate, Some, None, Ok, Err, Option, Result, sym, refl, ap, ◌∙◌, subst, ap₂, inl, inr, ⊎_elim, arith}
-use Rattle.std.specs.List.{flat_map, slice_get}
-use Rattle.std.proofs.lemmas.List.{get_or-replicate, get_or-set_same, get_or-set_other, length-set, take_more_set, length-take-le, drop-append-le, length-append, length-drop, drop_all, take_rest, append-nil, append_assoc, take-append-drop, take_more, flat_map_more}
-use Rattle.std.proofs.lemmas.Bool.{cases_eq, cases_Bool, eq-eqb, eqb-true, ne_eqb, not-true, not-false, false≢true, or_left, or_right, or_parts, or_from, both_ways, cond_both, and_parts, and_from, cond-true, cond-false, leb-true, leb-false, le-leb, lt-leb}
-use Rattle.std.proofs.lemmas.Bool.Decides.{nat_tests}
+use Rattle.std.proofs.Common.{◌≡◌, ℕ, zero, suc, ◌+◌, ◌-◌, ◌<◌, ◌≤◌, Bool, true, false, cond, not, ◌||◌, eqb, leb, List, [], ◌∷◌, ◌++◌, length, get_or, take, drop, set, replicate, Some, None, Ok, Err, Option, Result, sym, refl, ap, ◌∙◌, subst, ap₂, ⊎_elim, arith}
+use Rattle.std.specs.List.{slice_get}
+use Rattle.std.proofs.lemmas.List.{get_or-replicate, get_or-set_same, get_or-set_other, length-set, drop-append-le, drop_all, take_rest, take-append-drop, take_more, flat_map_more}
+use Rattle.std.proofs.lemmas.Bool.{cases_eq, eq-eqb, eqb-true, ne_eqb, not-true, not-false, false≢true, or_left, or_right, or_parts, or_from, both_ways, cond_both, and_parts, and_from, cond-true, cond-false, leb-false, le-leb, lt-leb}
 use Rattle.std.specs.Option.{option_map}
 use Rattle.refusal.specs.declared.Reason.{Reason}
 use Rattle.refusal.specs.declared.Reason.TheVariants.{VariableOutOfRange, BoundTwice, BadBlock, TooMany}
 use Rattle.formula.specs.declared.letter.Letter.{Letter}
 use Rattle.formula.specs.declared.letter.BlockEnd.{BlockEnd}
 use Rattle.formula.specs.declared.letter.Letter.TheVariants.{Universal}
-use Rattle.formula.specs.Cuts.{part, last_end, climbs, cut}
-use Rattle.formula.specs.Prefix.{Block, has_var, order, level_from, level, in_range, blocks_in, begun_in, block_end, as_block, BlocksLie, with_begun, LevelsTold, all_in_range, marked, PrefixModel, with_var, with_block, bound, level_so_far, unbindable, no_block, end_block, ends_in, same_letter, owner}
+use Rattle.formula.specs.Cuts.{part, last_end}
+use Rattle.formula.specs.Prefix.{Block, has_var, order, level_from, level, in_range, blocks_in, begun_in, block_end, as_block, BlocksLie, with_begun, LevelsTold, all_in_range, marked, PrefixModel, with_var, with_block, bound, unbindable, no_block, end_block, ends_in, same_letter, owner}
 use Rattle.formula.proofs.Parts.{cut_grown, cut_push, length_cut, joined_cut, last_push, climbs_push}
 
 never : {X : Type 0} {x : X} → ◌≡◌ {A = Option X} (Some x) None → ⊥

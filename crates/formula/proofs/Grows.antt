@@ -1,5 +1,5 @@
 -- A table that was pushed to, as an array that was set. Assumes nothing.
-use Rattle.std.proofs.Common.{◌≡◌, ℕ, suc, ◌+◌, ◌-◌, ◌<◌, ◌≤◌, min, List, [], ◌∷◌, ◌++◌, length, take, drop, set, Ok, Err, Result, sym, refl, ap, ◌∙◌, ap₂, add-one, arith, length-drop, length-take}
+use Rattle.std.proofs.Common.{◌≡◌, ℕ, ◌+◌, ◌<◌, List, [], ◌∷◌, ◌++◌, length, take, drop, set, Ok, Err, Result, sym, ap, ◌∙◌, ap₂, add-one, arith, length-drop, length-take}
 use Rattle.std.proofs.lemmas.List.{take-append-drop, set_split, append_assoc, drop-drop}
 use Rattle.table.specs.declared.slab.Full.{Full}
 use Rattle.table.specs.declared.slab.Table.{Table}

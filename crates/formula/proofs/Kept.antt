@@ -1,5 +1,5 @@
 -- What a matrix and a prefix of the code tell of what they hold. Assumes nothing.
-use Rattle.std.proofs.Common.{◌≡◌, ℕ, ◌-◌, ◌<◌, ◌≤◌, Bool, true, false, not, eqb, leb, List, length, get_or, take, drop, Some, None, sym, refl, ap, ◌∙◌, ap₂, arith, length-drop}
+use Rattle.std.proofs.Common.{◌≡◌, ℕ, ◌-◌, ◌<◌, ◌≤◌, true, false, not, leb, length, get_or, take, Some, None, sym, refl, ap, ◌∙◌, ap₂, arith, length-drop}
 use Rattle.std.proofs.lemmas.List.{length-take-le, get_or-take, take-take}
 use Rattle.std.specs.List.{slice_get}
 use Rattle.std.specs.Option.{option_map}
@@ -13,7 +13,7 @@ use Rattle.formula.specs.Cuts.{part, last_end}
 use Rattle.formula.proofs.Parts.{length_cut, climbs_at, part_taken, nth_cut}
 use Rattle.formula.proofs.Rows.{literals_kept, lie_kept}
 use Rattle.formula.proofs.Blocks.{level_unbound, level_out, bindable, mark_left, begun_kept, order_kept}
-use Rattle.std.proofs.lemmas.Bool.{and_parts, leb-true, not-true, not-false, eqb-true, ne_eqb, eq-eqb, both_ways}
+use Rattle.std.proofs.lemmas.Bool.{and_parts, leb-true, not-true, not-false, eqb-true, ne_eqb, eq-eqb}
 
 module _ (m : Matrix) where
   pub row_count : length (matrix_of m).rows ≡ m.rows

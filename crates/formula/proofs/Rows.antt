@@ -1,12 +1,12 @@
 -- Rows as they are kept: one literal more, one row more. Assumes nothing.
-use Rattle.std.proofs.Common.{◌≡◌, ℕ, zero, suc, ◌+◌, ◌-◌, ◌<◌, ◌≤◌, Bool, true, false, cond, ◌||◌, eqb, leb, ◌⊎◌, List, [], ◌∷◌, ◌++◌, length, get_or, take, drop, set, replicate, Some, None, Ok, Err, Option, Result, sym, refl, ap, ◌∙◌, subst, ap₂, inl, inr, ⊎_elim, arith}
-use Rattle.std.proofs.lemmas.List.{get_or-replicate, get_or-set_same, get_or-set_other, take_more_set, length-take-le, drop-append-le, length-append, length-drop, drop_all, take_all, take_rest}
+use Rattle.std.proofs.Common.{◌≡◌, ℕ, ◌+◌, ◌-◌, ◌<◌, ◌≤◌, Bool, true, false, cond, ◌||◌, eqb, leb, List, [], ◌∷◌, ◌++◌, length, get_or, take, drop, set, replicate, Some, None, Ok, Err, Option, Result, sym, refl, ap, ◌∙◌, subst, ap₂, ⊎_elim, arith}
+use Rattle.std.proofs.lemmas.List.{get_or-replicate, get_or-set_same, get_or-set_other, length-take-le, drop-append-le, length-drop, drop_all, take_rest}
 use Rattle.std.proofs.lemmas.Bool.Decides.{nat_tests}
 use Rattle.refusal.specs.declared.Reason.{Reason}
 use Rattle.refusal.specs.declared.Reason.TheVariants.{TooMany}
 use Rattle.std.proofs.lemmas.Bool.{le-leb, lt-leb, leb-false, cases_eq, eq-eqb, ne_eqb, or_right, cond-true, cond-false}
 use Rattle.formula.specs.declared.letter.Literal.{Literal}
-use Rattle.formula.specs.Cuts.{part, last_end, climbs, cut}
+use Rattle.formula.specs.Cuts.{last_end}
 use Rattle.formula.specs.Matrix.{names, rows_in, begun_in, row_end, as_row, RowsLie, MarksTold, all_literals, MatrixModel, with_literal, with_row, forbidden, add_literal, literal_count}
 use Rattle.formula.proofs.Parts.{cut_grown, cut_push, length_cut, joined_cut, last_push, climbs_push}
 

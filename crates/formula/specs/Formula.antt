@@ -1,7 +1,7 @@
 -- A formula: its prefix and its rows, and when it is well-formed.
-use Rattle.std.specs.Prelude.{◌≡◌, ℕ, ◌≤◌, Bool, true, false, not, ◌&&◌, List, [], ◌∷◌, length, ◌==◌, nat_le}
+use Rattle.std.specs.Prelude.{◌≡◌, ℕ, ◌≤◌, Bool, true, not, ◌&&◌, List, [], ◌∷◌, length, ◌==◌, nat_le}
 use Rattle.formula.specs.declared.letter.Literal.{Literal}
-use Rattle.formula.specs.Prefix.{Block, PrefixModel, same_letter, has_var, order, in_range, all_in_range}
+use Rattle.formula.specs.Prefix.{Block, PrefixModel, same_letter, has_var, order, all_in_range}
 use Rattle.formula.specs.Matrix.{MatrixModel, names, all_literals}
 
 -- n, the blocks of the prefix, m, and the rows

@@ -1,4 +1,6 @@
 // The parts of a quantified Boolean formula, each with room of its own: the prefix of blocks, and the rows of literals.
+#![tactic(auto)]
+
 pub mod letter;
 pub mod matrix;
 pub mod prefix;

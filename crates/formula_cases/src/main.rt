@@ -1,4 +1,6 @@
 // Reads a table of formula texts, and compares the line for each with the line that the table expects.
+#![tactic(auto)]
+
 ghost use Rattle.std.specs.Prelude.{◌+◌, ◌<◌, ◌≤◌, length, IfSome, IfOk};
 
 use report::formula_line;

@@ -3,7 +3,7 @@ use Rattle.std.proofs.Common.{◌≡◌, ℕ, zero, suc, ◌+◌, ◌<◌, ◌�
 use Rattle.std.proofs.lemmas.Bool.{cases_Bool, eqb-true, eq-eqb, or_cases, or_left, or_right, and_parts, leb-true, not-true, both_ways}
 use Rattle.formula.specs.declared.letter.Letter.{Letter}
 use Rattle.formula.specs.declared.letter.Letter.TheVariants.{Universal, Existential}
-use Rattle.formula.specs.Prefix.{Block, has_var, order, level_from, level, owner, in_range, all_in_range}
+use Rattle.formula.specs.Prefix.{Block, has_var, order, level_from, owner, in_range, all_in_range}
 use Rattle.formula.specs.Formula.{distinct}
 use Rattle.game.specs.Records.{Side}
 use Rattle.game.specs.Game.{In, Laid}

@@ -1,11 +1,11 @@
 -- Marks of a leaf: found and counted. Assumes nothing.
-use Rattle.std.proofs.Common.{◌≡◌, ℕ, zero, suc, ◌+◌, ◌<◌, ◌≤◌, Bool, true, false, cond, not, ◌&&◌, ◌||◌, eqb, ltb, leb, List, [], ◌∷◌, ◌++◌, length, get_or, take, drop, set, replicate, sym, refl, ap, ◌∙◌, subst, inl, inr, ⊎_elim, arith}
-use Rattle.std.proofs.lemmas.List.{get_or-replicate, get_or-set_same, get_or-set_other, take_more, length-set}
-use Rattle.std.proofs.lemmas.Bool.{and_parts, and_from, and_left, or_parts, or_from, or_left, or_right, ltb-true, eqb-true, eqb-false, eq-eqb, ne_eqb, cond-true, cond-false, cases_eq, not-true, not_from_false}
+use Rattle.std.proofs.Common.{◌≡◌, ℕ, ◌≤◌, Bool, true, false, cond, not, ◌&&◌, ◌||◌, eqb, ltb, List, [], ◌∷◌, ◌++◌, replicate, sym, refl, ap, ◌∙◌, ⊎_elim, arith}
+use Rattle.std.proofs.lemmas.List.{get_or-replicate}
+use Rattle.std.proofs.lemmas.Bool.{and_parts, and_from, and_left, or_parts, or_from, ltb-true, eqb-false, eq-eqb, ne_eqb, cond-true, cond-false, cases_eq, not-true, not_from_false}
 use Rattle.formula.specs.declared.letter.Literal.{Literal}
 use Rattle.formula.specs.Matrix.{names}
 use Rattle.formula.specs.Formula.{row_distinct}
-use Rattle.game.specs.Leaves.{rising, each_literal}
+use Rattle.game.specs.Leaves.{rising}
 use Rattle.game.specs.Grounds.{some_literal, same_sign, same_literal, has_literal}
 use Rattle.ground.specs.Codes.{code, coded, CodesTold}
 

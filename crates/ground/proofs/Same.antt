@@ -1,16 +1,16 @@
 -- What the marks of a leaf tell of a literal, of a row and of all rows. Assumes nothing.
-use Rattle.std.proofs.Common.{◌≡◌, ℕ, ◌<◌, ◌≤◌, Bool, true, false, cond, not, ◌&&◌, ◌||◌, eqb, ltb, leb, List, [], ◌∷◌, length, get_or, sym, refl, ap, ◌∙◌, ap₂, inl, inr, ⊎_elim, arith}
-use Rattle.std.proofs.lemmas.Bool.{and_parts, and_from, and_left, and_right, or_from, lt-ltb, le-ltb, lt-leb, ne_eqb, both_ways, cases_lt, not_from_true, not_from_false}
+use Rattle.std.proofs.Common.{◌≡◌, ℕ, ◌<◌, ◌≤◌, Bool, true, false, not, ◌&&◌, ◌||◌, eqb, ltb, leb, List, [], ◌∷◌, length, get_or, sym, refl, ap, ◌∙◌, ap₂, ⊎_elim, arith}
+use Rattle.std.proofs.lemmas.Bool.{and_parts, and_left, and_right, or_from, lt-ltb, le-ltb, lt-leb, ne_eqb, both_ways, cases_lt}
 use Rattle.formula.specs.declared.letter.Literal.{Literal}
 use Rattle.formula.specs.Matrix.{names}
-use Rattle.formula.specs.Prefix.{has_var, order, in_range, all_in_range}
+use Rattle.formula.specs.Prefix.{has_var, order, all_in_range}
 use Rattle.formula.specs.Formula.{Formula, row_bound, row_distinct, rows_good, well_formed, WellFormed}
 use Rattle.formula.proofs.Blocks.{none_out_of_range}
 use Rattle.formula.proofs.WellFormed.{tested}
 use Rattle.game.specs.Leaves.{rising, each_literal}
-use Rattle.game.specs.Grounds.{leaf_over, some_literal, some_row, each_row, has_literal, row_false, none_false, some_false, clause_ground, cube_ground}
+use Rattle.game.specs.Grounds.{leaf_over, some_literal, some_row, each_row, has_literal, row_false, none_false, clause_ground, cube_ground}
 use Rattle.ground.specs.Admits.{admits_leaf}
-use Rattle.ground.specs.Codes.{code, coded, CodesTold, marked_as, same_marked}
+use Rattle.ground.specs.Codes.{code, CodesTold, marked_as, same_marked}
 use Rattle.ground.proofs.Codes.{has_coded, rising_distinct, unnamed_has}
 use Rattle.ground.proofs.Counted.{same_by_count}
 

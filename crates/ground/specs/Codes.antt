@@ -2,7 +2,6 @@
 use Rattle.std.specs.Prelude.{◌≡◌, ℕ, ◌<◌, Bool, true, false, cond, ◌&&◌, List, [], ◌∷◌, length, ◌==◌, nat_lt, slice_index}
 use Rattle.formula.specs.declared.letter.Literal.{Literal}
 use Rattle.game.specs.Leaves.{each_literal}
-use Rattle.game.specs.Grounds.{some_literal}
 
 -- 1 for a plus, 2 for a minus
 abbrev pub code : Bool → ℕ

@@ -45,7 +45,7 @@ impl<F: Whole> Ground for Clauses<F> {
 
     ghost whole = { Prim.search rules };
 
-    ghost sound = { λ ground. clause_law (F.Whole.formula ground.formula) };
+    ghost sound = { λ g. clause_law (F.Whole.formula g.formula) };
 
     fn variables(&self) -> usize {
         self.formula.variables()

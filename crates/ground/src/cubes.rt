@@ -44,7 +44,7 @@ impl<F: Whole> Ground for Cubes<F> {
 
     ghost whole = { Prim.search rules };
 
-    ghost sound = { λ ground. cube_law (F.Whole.formula ground.formula) };
+    ghost sound = { λ g. cube_law (F.Whole.formula g.formula) };
 
     fn variables(&self) -> usize {
         self.formula.variables()

@@ -1,4 +1,6 @@
 // Grounds: what a derivation may start from, and which finished plays are won.
+#![tactic(auto)]
+
 pub mod clauses;
 pub mod cubes;
 pub mod ground;

@@ -1,7 +1,7 @@
 -- What is written is read: a text that writes a well-formed formula is accepted, and leaves that formula. Assumes nothing.
 use Rattle.std.proofs.Common.{◌≡◌, ℕ, zero, suc, ◌+◌, ◌<◌, ◌≤◌, min, Bool, true, false, not, ◌&&◌, ◌||◌, eqb, leb, List, [], ◌∷◌, ◌++◌, map, length, ℤ, pos, Some, None, Ok, Err, Option, Result, sym, refl, ap, ◌∙◌, ap₂, ⊎_elim, arith}
 use Rattle.std.specs.List.{flat_map}
-use Rattle.std.proofs.lemmas.List.{append_assoc, append-nil, length-append, length_push, map-append, flat_map_more}
+use Rattle.std.proofs.lemmas.List.{append_assoc, append-nil, length-append, length_push, map-append}
 use Rattle.std.proofs.lemmas.Bool.{and_parts, and_from, or_parts, or_from, not-true, ne_eqb, eqb-false, le-leb, leb-true, both_ways, cases_Bool, cond-true, cond-false}
 use Rattle.std.proofs.lemmas.Bool.Decides.{nat_tests}
 use Rattle.refusal.specs.declared.Reason.{Reason}
@@ -20,7 +20,7 @@ use Rattle.qdimacs.specs.declared.phase.Move.TheVariants.{Variables as VariableC
 use Rattle.qdimacs.specs.declared.phase.Fault.{Fault}
 use Rattle.qdimacs.specs.Moves.{decide, row_number}
 use Rattle.qdimacs.specs.Reading.{State, Outcome, nothing, in_phase, with_matrix, in_block, opened, apply, step, lacks, stopped, run, reading, left_formula}
-use Rattle.qdimacs.specs.Grammar.{Writes, letter_byte, literal_number, zero_word, variable_word, literal_word, head_words, block_words, row_words, formula_words, lexemes}
+use Rattle.qdimacs.specs.Grammar.{Writes, letter_byte, literal_number, zero_word, variable_word, literal_word, head_words, block_words, row_words, formula_words}
 use Rattle.qdimacs.specs.Refused.{bare}
 use Rattle.qdimacs.proofs.Lists.{no_some, order_push, literals_push, same_letter_sym}
 

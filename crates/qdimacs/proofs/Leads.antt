@@ -1,19 +1,19 @@
 -- The words that are read lead from good states to good states, and the state tells the words. Assumes nothing.
-use Rattle.std.proofs.Common.{◌≡◌, ℕ, zero, suc, ◌+◌, ◌<◌, ◌≤◌, min, Bool, true, false, cond, not, ◌||◌, eqb, leb, List, [], ◌∷◌, ◌++◌, map, length, ℤ, pos, negsuc, Some, None, Ok, Err, codes, Option, Result, sym, refl, ap, ◌∙◌, subst, ap₂, arith}
+use Rattle.std.proofs.Common.{◌≡◌, ℕ, zero, suc, ◌≤◌, min, Bool, true, false, cond, not, ◌||◌, eqb, leb, List, [], ◌∷◌, ◌++◌, map, length, ℤ, pos, negsuc, Some, None, Ok, Err, codes, Option, Result, sym, refl, ap, ◌∙◌, subst, ap₂, arith}
 use Rattle.std.specs.List.{flat_map}
 use Rattle.std.specs.Str.{bytes_eq}
 use Rattle.std.proofs.lemmas.Slice.Eq.{bytes_eq-Decides}
 use Rattle.std.proofs.lemmas.List.{append_assoc, append-nil, flat_map_more, map_push, length-append, length_push}
-use Rattle.std.proofs.lemmas.Bool.{eqb-true, ne_eqb, leb-true, leb-false, cond-true, cond-false}
+use Rattle.std.proofs.lemmas.Bool.{eqb-true, ne_eqb, leb-true}
 use Rattle.refusal.specs.declared.Reason.{Reason}
 use Rattle.refusal.specs.declared.Reason.TheVariants.{WrongRowCount, BadBlock, TooMany, TextTooLong}
 use Rattle.refusal.specs.declared.Layer.TheVariants.{Text, Row as RowLayer}
 use Rattle.formula.specs.declared.letter.Letter.{Letter}
 use Rattle.formula.specs.declared.letter.Letter.TheVariants.{Universal, Existential}
 use Rattle.formula.specs.declared.letter.Literal.{Literal}
-use Rattle.formula.specs.Prefix.{PrefixModel, unbound, has_var, order, all_in_range, no_block, bind, end_block, with_var, with_block, unnameable, bound, ends_in}
-use Rattle.formula.specs.Matrix.{MatrixModel, no_rows, complete, all_literals, literal_count, add_literal, end_row, with_literal, with_row}
-use Rattle.formula.specs.Formula.{distinct, rows_good, row_bound, row_distinct, complete_part, WellFormed}
+use Rattle.formula.specs.Prefix.{PrefixModel, unbound, has_var, order, all_in_range, no_block, bind, end_block, with_block, unnameable, bound, ends_in}
+use Rattle.formula.specs.Matrix.{MatrixModel, no_rows, complete, all_literals, add_literal, end_row, with_row}
+use Rattle.formula.specs.Formula.{distinct, rows_good, row_bound, complete_part, WellFormed}
 use Rattle.formula.proofs.Blocks.{range_push, blocks_fit}
 use Rattle.words.specs.Text.{Lexeme, letter, number_of, stray, printable, body, tokens_from}
 use Rattle.qdimacs.specs.declared.phase.Phase.{Phase}
@@ -21,11 +21,11 @@ use Rattle.qdimacs.specs.declared.phase.Phase.TheVariants.{Start, Format, Variab
 use Rattle.qdimacs.specs.declared.phase.Move.{Move}
 use Rattle.qdimacs.specs.declared.phase.Move.TheVariants.{Problem, Format as Named, Variables as VariableCount, Head, Open, Bind, EndBlock, Add, EndRow}
 use Rattle.qdimacs.specs.declared.phase.Fault.{Fault}
-use Rattle.qdimacs.specs.Moves.{misplaced, not_a_number, foreign_byte, bad_head, decide, due, row_number}
-use Rattle.qdimacs.specs.Reading.{State, apply, step, in_phase, with_prefix, with_matrix, by_layer, in_block, in_row, opened, named, lacks, run, stopped, reading, nothing, Outcome, left_formula}
-use Rattle.qdimacs.specs.Grammar.{letter_byte, literal_number, literal_word, variable_word, zero_word, head_words, block_words, row_words, formula_words, lexemes, Writes}
+use Rattle.qdimacs.specs.Moves.{misplaced, not_a_number, foreign_byte, bad_head, due, row_number}
+use Rattle.qdimacs.specs.Reading.{State, apply, step, by_layer, in_block, in_row, opened, named, lacks, run, stopped, reading, nothing, Outcome, left_formula}
+use Rattle.qdimacs.specs.Grammar.{letter_byte, literal_word, variable_word, zero_word, head_words, block_words, row_words, formula_words, Writes}
 use Rattle.qdimacs.specs.Refused.{bare}
-use Rattle.qdimacs.specs.Written.{complete_words, written, written_by, Begun, Good, Sound}
+use Rattle.qdimacs.specs.Written.{complete_words, written, written_by, Good, Sound}
 use Rattle.qdimacs.proofs.Lists.{no_ok, no_some, same_ok, order_push, literals_push, distinct_push, alternating_push, filled_push, row_bound_push, row_distinct_push, rows_good_push, bound_one, ended_block, nameable, added_literal, ended_row}
 
 abbrev st : Phase → PrefixModel → MatrixModel → State

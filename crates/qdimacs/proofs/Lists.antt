@@ -1,17 +1,16 @@
 -- Formulas and rows that grow by one, and answers that were accepted. Assumes nothing.
-use Rattle.std.proofs.Common.{◌≡◌, ℕ, zero, suc, ◌+◌, ◌<◌, ◌≤◌, Bool, true, false, cond, not, ◌&&◌, ◌||◌, eqb, leb, List, [], ◌∷◌, ◌++◌, map, length, Some, None, Ok, Err, Option, Result, sym, refl, ap, ◌∙◌, subst, ap₂, arith}
-use Rattle.std.specs.List.{flat_map}
-use Rattle.std.proofs.lemmas.List.{append_assoc, append-nil, flat_map_more, length-append}
-use Rattle.std.proofs.lemmas.Bool.{and_parts, and_from, or_parts, or_from, not-true, not-false, not_from_true, not_from_false, ne_eqb, eqb-false, leb-true, leb-false, cond-true, cond-false}
+use Rattle.std.proofs.Common.{◌≡◌, ℕ, ◌<◌, Bool, true, false, cond, not, ◌&&◌, ◌||◌, eqb, leb, List, [], ◌∷◌, ◌++◌, length, Some, None, Ok, Err, Option, Result, sym, refl, ap, ◌∙◌, arith}
+use Rattle.std.proofs.lemmas.List.{flat_map_more}
+use Rattle.std.proofs.lemmas.Bool.{and_parts, and_from, or_parts, or_from, not-true, not_from_false, ne_eqb, eqb-false, leb-false}
 use Rattle.refusal.specs.declared.Reason.{Reason}
-use Rattle.refusal.specs.declared.Reason.TheVariants.{VariableOutOfRange, BoundTwice, BadBlock, TooMany, Unbound, VariableTwice, WrongRowCount}
+use Rattle.refusal.specs.declared.Reason.TheVariants.{VariableOutOfRange, BadBlock, TooMany, Unbound, VariableTwice, WrongRowCount}
 use Rattle.formula.specs.declared.letter.Letter.{Letter}
 use Rattle.formula.specs.declared.letter.Letter.TheVariants.{Universal, Existential}
 use Rattle.formula.specs.declared.letter.Literal.{Literal}
-use Rattle.formula.specs.Prefix.{Block, PrefixModel, same_letter, has_var, order, in_range, all_in_range, ends_in, bound, no_block, unbindable, unnameable, bind, end_block, with_var, with_block}
+use Rattle.formula.specs.Prefix.{Block, PrefixModel, same_letter, has_var, order, in_range, ends_in, bound, no_block, unbindable, unnameable, bind, end_block, with_var, with_block}
 use Rattle.formula.specs.Matrix.{MatrixModel, names, all_literals, literal_count, complete, forbidden, add_literal, end_row, with_literal, with_row}
 use Rattle.formula.specs.Formula.{distinct, alternating, none_empty, row_distinct, row_bound, rows_good}
-use Rattle.formula.proofs.Blocks.{has_append, bindable, blocks_fit}
+use Rattle.formula.proofs.Blocks.{has_append, bindable}
 
 pub no_ok : {X E : Type 0} {x : X} {f : E} → ◌≡◌ {A = Result X E} (Err f) (Ok x) → ⊥
 no_ok e = let z : ◌≡◌ {A = ℕ} 0 1 = cc in absurd (omega arith)

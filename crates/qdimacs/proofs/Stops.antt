@@ -1,12 +1,11 @@
 -- A refused text: the words before the place write what is left, and no well-formed formula goes on from there. Assumes nothing.
-use Rattle.std.proofs.Common.{◌≡◌, ℕ, ◌≤◌, Bool, true, false, cond, List, [], ◌∷◌, ◌++◌, map, length, Some, None, Ok, Err, Option, Result, sym, refl, ap, ◌∙◌, subst, arith}
-use Rattle.std.proofs.lemmas.List.{append_assoc, append-nil, map_push}
+use Rattle.std.proofs.Common.{◌≡◌, ℕ, List, [], ◌∷◌, ◌++◌, length, Some, None, Ok, Err, Option, Result, sym, refl, ap, ◌∙◌, subst}
+use Rattle.std.proofs.lemmas.List.{append_assoc, map_push}
 use Rattle.std.proofs.lemmas.Bool.{le-leb, cond-true}
 use Rattle.refusal.specs.declared.Refusal.{Refusal}
 use Rattle.formula.specs.Formula.{Formula, WellFormed}
 use Rattle.words.specs.Text.{Lexeme, body, tokens_from}
 use Rattle.qdimacs.specs.declared.phase.Fault.{Fault}
-use Rattle.qdimacs.specs.Grammar.{formula_words}
 use Rattle.qdimacs.specs.Reading.{State, Outcome, nothing, step, lacks, stopped, run, reading, at_place}
 use Rattle.qdimacs.specs.Refused.{bare, place_of, Goes_on, Stops, Stopped}
 use Rattle.qdimacs.specs.View.{refusal_of}

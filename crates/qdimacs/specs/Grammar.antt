@@ -1,5 +1,5 @@
 -- What a formula text is, in words of its own: the formula, and the words that write it.
-use Rattle.std.specs.Prelude.{◌≡◌, ℕ, ◌≤◌, Bool, true, cond, List, [], ◌∷◌, ◌++◌, map, length, ℤ, pos, neg_ℤ, is_ok, codes, Result}
+use Rattle.std.specs.Prelude.{◌≡◌, ℕ, ◌≤◌, true, cond, List, [], ◌∷◌, ◌++◌, map, length, ℤ, pos, neg_ℤ, is_ok, codes, Result}
 use Rattle.std.specs.List.{flat_map}
 use Rattle.formula.specs.declared.letter.Letter.{Letter}
 use Rattle.formula.specs.declared.letter.Letter.TheVariants.{Universal, Existential}

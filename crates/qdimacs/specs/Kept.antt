@@ -1,7 +1,7 @@
 -- The formula that a formula of the code holds.
 use Rattle.formula.specs.Formula as model
-use Rattle.qdimacs.specs.declared.formula.Formula.{Formula}
-use Rattle.qdimacs.specs.declared.formula.Sealed.{Sealed}
+use Rattle.qdimacs.specs.declared.sealed.Formula.{Formula}
+use Rattle.qdimacs.specs.declared.sealed.Sealed.{Sealed}
 use Rattle.qdimacs.specs.Reading.{left_formula}
 use Rattle.qdimacs.specs.View.{state_of}
 

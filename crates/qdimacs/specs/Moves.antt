@@ -1,5 +1,5 @@
 -- Which word may come next, and what it does.
-use Rattle.std.specs.Prelude.{ℕ, suc, Bool, true, false, cond, not, ◌||◌, List, ℤ, pos, negsuc, Ok, Err, codes, Result, ◌==◌, nat_le}
+use Rattle.std.specs.Prelude.{ℕ, suc, Bool, true, false, cond, not, ◌||◌, ℤ, pos, negsuc, Ok, Err, codes, Result, ◌==◌, nat_le}
 use Rattle.std.specs.Str.{bytes_eq}
 use Rattle.refusal.specs.declared.Layer.TheVariants.{Word, Head as HeadLayer, Block as BlockLayer}
 use Rattle.refusal.specs.declared.Reason.TheVariants.{ForeignByte, Misplaced, NotANumber, HeadOutOfRange, VariableOutOfRange}

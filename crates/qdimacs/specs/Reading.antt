@@ -1,9 +1,9 @@
 -- How a formula text is read: word by word, from nothing.
 use Rattle.std.specs.Prelude.{ℕ, min, cond, List, [], ◌∷◌, length, Some, None, Ok, Err, Option, Result, nat_le}
 use Rattle.refusal.specs.declared.Layer.{Layer}
-use Rattle.refusal.specs.declared.Layer.TheVariants.{Text, Word, Block as BlockLayer, Row as RowLayer}
+use Rattle.refusal.specs.declared.Layer.TheVariants.{Text, Block as BlockLayer, Row as RowLayer}
 use Rattle.refusal.specs.declared.Reason.{Reason}
-use Rattle.refusal.specs.declared.Reason.TheVariants.{TextTooLong, Misplaced, WrongRowCount}
+use Rattle.refusal.specs.declared.Reason.TheVariants.{TextTooLong, WrongRowCount}
 use Rattle.refusal.specs.declared.Refusal.{Refusal}
 use Rattle.formula.specs.declared.letter.Letter.{Letter}
 use Rattle.formula.specs.declared.letter.Literal.{Literal}

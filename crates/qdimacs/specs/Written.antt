@@ -1,5 +1,5 @@
 -- The words that lead to a state of the reading, and what holds of every state that words lead to.
-use Rattle.std.specs.Prelude.{◌≡◌, ℕ, ◌≤◌, true, List, [], ◌∷◌, ◌++◌, map, length, pos, None, codes}
+use Rattle.std.specs.Prelude.{◌≡◌, ◌≤◌, true, List, [], ◌∷◌, ◌++◌, map, length, pos, None, codes}
 use Rattle.std.specs.List.{flat_map}
 use Rattle.formula.specs.Formula.{alternating, none_empty, distinct, row_bound, row_distinct, rows_good}
 use Rattle.formula.specs.Matrix.{MatrixModel, literal_count, no_rows}

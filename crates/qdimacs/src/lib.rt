@@ -1,6 +1,8 @@
 // Reads a formula from its text.
-mod draft;
-pub mod formula;
-mod phase;
+#![tactic(auto)]
 
-pub use formula::{Formula, Sealed};
+mod draft;
+mod phase;
+pub mod sealed;
+
+pub use sealed::{Formula, Sealed};

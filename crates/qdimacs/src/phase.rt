@@ -57,7 +57,7 @@ pub struct Fault {
 fn is_format(word: &[u8]) -> bool
     ensures { result ≡ bytes_eq word.now (codes "cnf") }
 {
-    word == b"cnf"
+    word == b"cnf".as_slice()
 }
 
 // n: a number from 0 to 1,024.

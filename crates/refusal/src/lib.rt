@@ -1,4 +1,6 @@
 // Why a call refuses, for the whole product: each reason has one number, and a refusal tells the layer and the place too.
+#![tactic(auto)]
+
 ghost use Rattle.std.specs.Prelude.{◌≡◌};
 ghost use Rattle.refusal.specs.Numbers.{ToldApart, name as layer-name, number as reason-number, text as reason-text};
 

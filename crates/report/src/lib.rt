@@ -1,4 +1,6 @@
 // The lines that programs print, and what each program does with the files of its folder.
+#![tactic(auto)]
+
 ghost use Rattle.std.specs.Prelude.{◌≡◌, IfOk, string_bytes};
 ghost use Rattle.qdimacs.specs.Kept.{sealed_formula};
 ghost use Rattle.report.specs.Lines.{formula_line, read_line, refusal_line};

@@ -1,5 +1,5 @@
 -- A ground that admits only the short rows of a formula.
-use Rattle.std.specs.Prelude.{ℕ, Bool, ◌&&◌, length, nat_le}
+use Rattle.std.specs.Prelude.{ℕ, ◌&&◌, length, nat_le}
 use Rattle.formula.specs.declared.letter.Letter.TheVariants.{Universal}
 use Rattle.formula.specs.Formula.{Formula}
 use Rattle.game.specs.Grounds.{Ground, clause_ground, some_false, leaf_over}

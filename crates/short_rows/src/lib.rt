@@ -1,5 +1,7 @@
 // An example of a ground of one's own: it admits the rows of a formula that have few literals, and no others. All that it owes is
 // its meaning and its law.
+#![tactic(auto)]
+
 ghost use Rattle.short_rows.specs.Short.{short_ground};
 ghost use Rattle.std.specs.Prelude.{◌&&◌, length, nat_le};
 ghost use Rattle.std.proofs.lemmas.Bool.{and_parts};
@@ -30,9 +32,9 @@ impl<F: Whole> Ground for ShortRows<F> {
     ghost whole = { Prim.search rules };
 
     // what it admits, the clause ground admits
-    ghost sound = { λ ground ls p leaf admitted long full met.
-        let F' = F.Whole.formula ground.clauses.formula in
-        let short = and_parts (nat_le (length ls) ground.most) (leaf_over F' ls && (clause_ground F').admits ls) admitted in
+    ghost sound = { λ g ls p leaf admitted long full met.
+        let F' = F.Whole.formula g.clauses.formula in
+        let short = and_parts (nat_le (length ls) g.most) (leaf_over F' ls && (clause_ground F').admits ls) admitted in
         clause_law F' ls p leaf (and_parts (leaf_over F' ls) ((clause_ground F').admits ls) short.1).1 long full met };
 
     fn variables(&self) -> usize {

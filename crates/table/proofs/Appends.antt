@@ -19,7 +19,7 @@ module _ {T : Type 0} (key : T → ℕ) (both : T → T → T) (p : ℕ) (before
     done : List T
     grown : Grown before (take (length (free before)) done) now
     goes_on : done ++ to_come key both p (entries before) w ≡ to_come key both p (entries before) start
-    pub stays : now.slots.name ≡ before.slots.name
+    pub stays : now.slots.ghost_name ≡ before.slots.ghost_name
 
   -- before the first turn, over two parts that end within the table
   pub begins : (first second : Span) → start.first ≡ below (length (entries before)) first → start.second ≡ below (length (entries before)) second

@@ -30,4 +30,4 @@ module _ {T : Type 0} where
         (λ i. (0 < length (free before)) × (i ≡ length (entries before)) × Grown before (x ∷ []) after)
         (λ _. (free before ≡ []) × Same before after)
     -- the slots are the same memory, so that their owner learns what they hold
-    pub stays : after.slots.name ≡ before.slots.name
+    pub stays : after.slots.ghost_name ≡ before.slots.ghost_name

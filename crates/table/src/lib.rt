@@ -1,4 +1,6 @@
 // A growing table on memory that the caller hands in, and the join of two sorted parts of it.
+#![tactic(auto)]
+
 mod join;
 mod slab;
 

@@ -1,4 +1,6 @@
 // The words of a QDIMACS text, each handed on as a token that borrows the text.
+#![tactic(auto)]
+
 pub mod laws;
 mod number;
 pub mod reader;

@@ -68,10 +68,10 @@ impl<'a> Docket<'a> {
     }
 
     // Whether formula, ground and docket have the same n.
-    fn same_size<G: Ground>(&self, formula: &Sealed<'_>, ground: &G) -> bool
-        ensures { result ≡ same_size (sealed_formula formula.now) (G.Ground.meaning ground.now) (docket_of self.now) }
+    fn same_size<G: Ground>(&self, formula: &Sealed<'_>, own_ground: &G) -> bool
+        ensures { result ≡ same_size (sealed_formula formula.now) (G.Ground.meaning own_ground.now) (docket_of self.now) }
     {
-        self.n == formula.variables() && self.n == ground.variables()
+        self.n == formula.variables() && self.n == own_ground.variables()
     }
 
     // Whether a further step fits.
@@ -122,13 +122,13 @@ impl<'a> Docket<'a> {
     pub fn leaf<G: Ground>(
         &mut self,
         formula: &Sealed<'_>,
-        ground: &G,
+        own_ground: &G,
         literals: &[Literal],
     ) -> Result<u32, Refusal>
-        ensures answer { Leafed (sealed_formula formula.now) (G.Ground.meaning ground.now) literals.now (docket_of self.old) result (docket_of self.new) }
+        ensures answer { Leafed (sealed_formula formula.now) (G.Ground.meaning own_ground.now) literals.now (docket_of self.old) result (docket_of self.new) }
         ensures memory { Memory self.old result self.new }
     {
-        if !self.same_size(formula, ground) {
+        if !self.same_size(formula, own_ground) {
             return Err(refused(Layer::Docket, Reason::SizesDiffer));
         }
         if !all_bound(formula, literals) {
@@ -137,7 +137,7 @@ impl<'a> Docket<'a> {
         if !rises(literals) {
             return Err(refused(Layer::Leaf, Reason::NotRising));
         }
-        if !ground.admit(literals) {
+        if !own_ground.admit(literals) {
             return Err(refused(Layer::Leaf, Reason::NotAdmitted));
         }
         if !self.step_fits() {
@@ -166,19 +166,19 @@ impl<'a> Docket<'a> {
     pub fn reduce<G: Ground>(
         &mut self,
         formula: &Sealed<'_>,
-        ground: &G,
+        own_ground: &G,
         parent: u32,
     ) -> Result<u32, Refusal>
-        ensures answer { Reduced (sealed_formula formula.now) (G.Ground.meaning ground.now) parent (docket_of self.old) result (docket_of self.new) }
+        ensures answer { Reduced (sealed_formula formula.now) (G.Ground.meaning own_ground.now) parent (docket_of self.old) result (docket_of self.new) }
         ensures memory { Memory self.old result self.new }
     {
-        if !self.same_size(formula, ground) {
+        if !self.same_size(formula, own_ground) {
             return Err(refused(Layer::Docket, Reason::SizesDiffer));
         }
         let Some(span) = self.span_of(parent) else {
             return Err(refused(Layer::Reduce, Reason::NotEarlier));
         };
-        let side = side_at(formula, ground);
+        let side = side_at(formula, own_ground);
         let cut = cut_of(&side, self.part(span));
         if !cut.some_go {
             return Err(refused(Layer::Reduce, Reason::EmptyTail));
@@ -218,11 +218,11 @@ impl<'a> Docket<'a> {
     fn lowest_verdict<G: Ground>(
         &self,
         formula: &Sealed<'_>,
-        ground: &G,
+        own_ground: &G,
     ) -> Result<Verdict, Refusal>
-        ensures { (numbered result, docket_of self.now) ≡ close (sealed_formula formula.now) (G.Ground.meaning ground.now) (docket_of self.now) }
+        ensures { (numbered result, docket_of self.now) ≡ close (sealed_formula formula.now) (G.Ground.meaning own_ground.now) (docket_of self.now) }
     {
-        if !self.same_size(formula, ground) {
+        if !self.same_size(formula, own_ground) {
             return Err(refused(Layer::Docket, Reason::SizesDiffer));
         }
         let step = self.lowest_empty();
@@ -234,10 +234,10 @@ impl<'a> Docket<'a> {
 
     // Gives the verdict, the lowest step with an empty record, or refuses; the docket may grow on. Where the docket was new and only
     // these calls acted upon it, each with this formula and its ground, a verdict shows that own side wins.
-    pub fn close<G: Ground>(&self, formula: &Sealed<'_>, ground: &G) -> Result<Verdict, Refusal>
-        ensures answer { (numbered result, docket_of self.now) ≡ close (sealed_formula formula.now) (G.Ground.meaning ground.now) (docket_of self.now) }
-        ensures verdict { sealed_formula formula.now ≡ (G.Ground.meaning ground.now).formula → Reached (G.Ground.meaning ground.now) (docket_of self.now) → VerdictRight (G.Ground.meaning ground.now) (docket_of self.now) (numbered result) }
+    pub fn close<G: Ground>(&self, formula: &Sealed<'_>, own_ground: &G) -> Result<Verdict, Refusal>
+        ensures answer { (numbered result, docket_of self.now) ≡ close (sealed_formula formula.now) (G.Ground.meaning own_ground.now) (docket_of self.now) }
+        ensures verdict { sealed_formula formula.now ≡ (G.Ground.meaning own_ground.now).formula → Reached (G.Ground.meaning own_ground.now) (docket_of self.now) → VerdictRight (G.Ground.meaning own_ground.now) (docket_of self.now) (numbered result) }
     {
-        self.lowest_verdict(formula, ground)
+        self.lowest_verdict(formula, own_ground)
     }
 }

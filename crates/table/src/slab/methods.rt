@@ -39,7 +39,7 @@ impl<'a, T: Copy> Table<'a, T> {
     pub fn resume(slots: &'a mut [T], len: usize) -> Table<'a, T>
         ensures memory { result.slots.now ≡ slots.old }
         ensures len { result.len ≡ len }
-        ensures stays { result.slots.name ≡ slots.entry.name }
+        ensures stays { result.slots.ghost_name ≡ slots.entry.ghost_name }
     {
         Table { slots, len }
     }
@@ -86,7 +86,7 @@ impl<'a, T: Copy> Table<'a, T> {
     fn append(&mut self, x: T)
         requires { 0 < length (free self.old) }
         ensures grown { Grown self.old (x ∷ []) self.new }
-        ensures stays { self.new.slots.name ≡ self.old.slots.name }
+        ensures stays { self.new.slots.ghost_name ≡ self.old.slots.ghost_name }
     {
         let place = self.len;
         self.slots[place] = x;

@@ -3,7 +3,7 @@ use Rattle.docket.proofs.leaves.append_leaf.Goals as goal
 
 pub loop-literal-preserved : goal.loop-literal-preserved
 loop-literal-preserved c =
-    marked_next c.args.literals.now c.loop-literal.literal-index c.loop-literal.invariant c.requires _ c.mark-from-mark.ensures c.push.ensures
+    marked_next c.args.literals.now c.loop-literal.literal-index c.loop-literal.invariant c.requires _ c.mark_from-mark.ensures c.push.ensures
     c.loop-literal-test.true
 
 pub returns : goal.returns

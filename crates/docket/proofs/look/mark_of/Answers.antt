@@ -1,5 +1,5 @@
-use Rattle.std.proofs.Common.{ℕ, ◌+◌, ◌-◌, ◌/◌, ◌<◌, ◌≤◌, length, arith}
-use Rattle.docket.proofs.Looking.{at, all_lower, all_higher, found_at, not_there}
+use Rattle.std.proofs.Common.{◌+◌, ◌-◌, ◌/◌, ◌<◌, length, arith}
+use Rattle.docket.proofs.Looking.{all_lower, all_higher, found_at, not_there}
 use Rattle.docket.proofs.look.mark_of.Goals as goal
 
 pub returns-then-entry-variable : goal.returns-then-entry-variable

@@ -11,14 +11,14 @@ use Rattle.docket.proofs.tails.append_kept.Goals.{then-stays, else-stays}
 pub loop-i-init : goal.loop-i-init
 loop-i-init c = ([], grown_none _, refl)
 
-pub offset-bounds-as-slice-i : goal.offset-bounds-as-slice-i
-offset-bounds-as-slice-i c =
-    let all = ap length c.as-slice.ensures in
+pub offset_bounds-as_slice-i : goal.offset_bounds-as_slice-i
+offset_bounds-as_slice-i c =
+    let all = ap length c.as_slice.ensures in
     omega (arith, place_low c.args.marks.now _ c.args.to _ c.requires.within c.loop-i.i c.loop-i.invariant c.loop-i-test.true)
 
-pub bounds-as-slice-i : goal.bounds-as-slice-i
-bounds-as-slice-i c =
-    let all = ap length c.as-slice.ensures in
+pub bounds-as_slice-i : goal.bounds-as_slice-i
+bounds-as_slice-i c =
+    let all = ap length c.as_slice.ensures in
     omega (arith, place_low c.args.marks.now _ c.args.to _ c.requires.within c.loop-i.i c.loop-i.invariant c.loop-i-test.true)
 
 pub loop-i-preserved : goal.loop-i-preserved
@@ -30,10 +30,10 @@ loop-i-preserved c =
     elim c.if-stays.branch [
       | then-stays w ↦
           left_at old f c.args.to _ c.requires.within _ w.marks-is
-          (left_stays old f c.args.to _ c.requires.within _ c.as-slice.ensures i _ room c.loop-i.invariant c.loop-i-test.true (sym w.if-stays.ensures) w.push.ensures)
+          (left_stays old f c.args.to _ c.requires.within _ c.as_slice.ensures i _ room c.loop-i.invariant c.loop-i-test.true (sym w.if-stays.ensures) w.push.ensures)
       | else-stays w ↦
           left_at old f c.args.to _ c.requires.within _ w.marks-is
-          (left_goes old f c.args.to _ c.requires.within _ c.as-slice.ensures i _ c.loop-i.invariant c.loop-i-test.true (sym w.if-stays.ensures))
+          (left_goes old f c.args.to _ c.requires.within _ c.as_slice.ensures i _ c.loop-i.invariant c.loop-i-test.true (sym w.if-stays.ensures))
     ]
 
 pub returns : goal.returns

@@ -9,5 +9,5 @@ pub returns : goal.returns
 returns c =
     let S = seen c.args.side.now in
     let r = c.args.marks.now in
-    let stay = c.kept-len-stay.ensures ∙ ap (λ h. length (kept (stays S h) r)) c.ceiling-of-ceiling.ensures in
-    record { ceiling = c.ceiling-of-ceiling.ensures; stay = stay; go = ap (λ n. ltb n (length r)) stay ∙ some_goes (over S r) r }
+    let stay = c.kept_len-stay.ensures ∙ ap (λ h. length (kept (stays S h) r)) c.ceiling_of-ceiling.ensures in
+    record { ceiling = c.ceiling_of-ceiling.ensures; stay = stay; go = ap (λ n. ltb n (length r)) stay ∙ some_goes (over S r) r }

@@ -1,5 +1,4 @@
-use Rattle.std.proofs.Common.{◌≡◌, ℕ, ◌+◌, List, length, get_or, take, set, sym, refl, ap, ◌∙◌, subst, arith, length-set}
-use Rattle.formula.specs.declared.letter.Literal.{Literal}
+use Rattle.std.proofs.Common.{ℕ, ◌+◌, List, length, take, set, sym, refl, ap, ◌∙◌, subst, length-set}
 use Rattle.ground.specs.Codes.{CodesTold}
 use Rattle.ground.proofs.Codes.{no_codes}
 use Rattle.ground.proofs.Turns.{code_more, code_past, code_all}

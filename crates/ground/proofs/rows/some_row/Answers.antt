@@ -1,7 +1,7 @@
 use Rattle.std.proofs.Common.{sym, ◌∙◌, arith}
 use Rattle.ground.proofs.Turns.{row_stops, row_goes, no_row_left, row_there}
 use Rattle.ground.proofs.rows.some_row.Goals as goal
-use Rattle.ground.proofs.rows.some_row.Goals.{in-Some+else-passes, in-default}
+use Rattle.ground.proofs.rows.some_row.Goals.{in-Some+else-passes, in_default}
 
 pub returns-then-passes : goal.returns-then-passes
 returns-then-passes g c =
@@ -16,7 +16,7 @@ loop-i-preserved g c =
     elim c.match-row.branch [
       | in-Some+else-passes w ↦
           sym (row_goes f rows c.loop-i.i _ w.in-Some.ensures (omega (arith, c.rows-i-end.ensures)) (sym w.if-passes.ensures)) ∙ c.loop-i.invariant
-      | in-default w ↦ absurd (row_there f rows c.loop-i.i (omega (arith, c.rows-i-end.ensures)) w.in-default.ensures)
+      | in_default w ↦ absurd (row_there f rows c.loop-i.i (omega (arith, c.rows-i-end.ensures)) w.in_default.ensures)
     ]
 
 pub returns : goal.returns

@@ -3,12 +3,12 @@ use Rattle.words.proofs.Cut.{no_token, one_token, span_ends}
 use Rattle.words.proofs.reader.next_span.Goals as goal
 
 pub returns-then-start-text : goal.returns-then-start-text
-returns-then-start-text c = no_token _ _ c.word-start-start.result (omega arith) c.word-start-start.ensures.same
+returns-then-start-text c = no_token _ _ c.word_start-start.result (omega arith) c.word_start-start.ensures.same
 
 pub returns : goal.returns
 returns c =
-    let start = c.word-start-start.ensures in
-    let end = c.word-end.ensures in
+    let start = c.word_start-start.ensures in
+    let end = c.word_end.ensures in
     record {
       within = end.within;
       bytes = end.front;

@@ -3,8 +3,8 @@ use Rattle.std.proofs.lemmas.List.{at_drop_more, at_drop_all}
 use Rattle.words.specs.Text.{printable}
 use Rattle.words.proofs.token.is_printable.Goals as goal
 
-pub returns-then-not-is-visible : goal.returns-then-not-is-visible
-returns-then-not-is-visible c = let e = at_drop_more printable c.args.word.now c.loop-b.b-index 0 (omega arith) in search rules
+pub returns-then-not-is_visible : goal.returns-then-not-is_visible
+returns-then-not-is_visible c = let e = at_drop_more printable c.args.word.now c.loop-b.b-index 0 (omega arith) in search rules
 
 pub loop-b-preserved : goal.loop-b-preserved
 loop-b-preserved c = let e = at_drop_more printable c.args.word.now c.loop-b.b-index 0 (omega arith) in search rules

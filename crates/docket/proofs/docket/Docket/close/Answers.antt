@@ -5,10 +5,10 @@ use Rattle.docket.proofs.docket.Docket.close.Goals as goal
 
 pub returns : goal.returns
 returns g c =
-    let ground = c.args.ground.now in
+    let own_ground = c.args.own_ground.now in
     record {
-      answer = c.lowest-verdict.ensures;
+      answer = c.lowest_verdict.ensures;
       verdict =
-          closed_right (sealed_formula c.args.formula.now) (g.G.Ground.meaning ground) (docket_of c.args.self.now) (numbered c.lowest-verdict.result) c.lowest-verdict.ensures
-          (g.met.G.Ground.whole ground) (g.met.G.Ground.sound ground);
+          closed_right (sealed_formula c.args.formula.now) (g.G.Ground.meaning own_ground) (docket_of c.args.self.now) (numbered c.lowest_verdict.result) c.lowest_verdict.ensures
+          (g.met.G.Ground.whole own_ground) (g.met.G.Ground.sound own_ground);
     }

@@ -7,13 +7,13 @@ use Rattle.docket.proofs.Steps.{step_count}
 use Rattle.docket.proofs.Closing.{passes_here, passes_none}
 use Rattle.docket.proofs.docket.Docket.lowest_empty.Goals as goal
 
-pub returns-then-is-empty-at : goal.returns-then-is-empty-at
-returns-then-is-empty-at c =
+pub returns-then-is_empty_at : goal.returns-then-is_empty_at
+returns-then-is_empty_at c =
     let d = c.args.self.now in
     let D = (docket_of d).steps in
     let count = step_count (entries d.steps) (entries d.marks) in
     passes_here (λ k. is_empty (marks_of D k)) (length D) c.loop-place.place c.loop-place.invariant (omega (arith, count, c.loop-place-test.true, c.len-place-end.ensures))
-    (sym c.if-is-empty-at.ensures)
+    (sym c.if-is_empty_at.ensures)
 
 pub returns : goal.returns
 returns c =

@@ -11,6 +11,6 @@ pub returns-else-place-eq0 : goal.returns-else-place-eq0
 returns-else-place-eq0 c =
     let stored = entries c.args.self.now.steps in
     let back : c.args.place - 1 + 1 ≡ c.args.place = omega (arith, c.if-place-eq0.false) in
-    ap (λ (l : List StoredStep). (get_or l (c.args.place - 1) (record { origin = Leaf; end = 0 })).end) c.as-slice.ensures
+    ap (λ (l : List StoredStep). (get_or l (c.args.place - 1) (record { origin = Leaf; end = 0 })).end) c.as_slice.ensures
     ∙ sym (last_at step_end 0 stored (c.args.place - 1) _ (omega (arith, c.if-place-eq0.false, c.requires)))
     ∙ ap (λ n. last_end step_end 0 (take n stored)) back

@@ -6,4 +6,4 @@ pub returns : goal.returns
 returns c =
     let m = c.args.self.now in
     let ends = take m.rows m.ends in
-    c.row-start.ensures ∙ sym (row_literals ends (take m.used m.literals) (lie_kept ends m.used m.literals (omega arith) m.lie))
+    c.row_start.ensures ∙ sym (row_literals ends (take m.used m.literals) (lie_kept ends m.used m.literals (omega arith) m.lie))

@@ -2,5 +2,5 @@ use Rattle.std.proofs.Common.{refl, arith}
 use Rattle.formula.proofs.Rows.{no_marks}
 use Rattle.formula.proofs.matrix.Matrix.new.Goals as goal
 
-pub invariant-of-result : goal.invariant-of-result
-invariant-of-result c = ((refl, refl, refl), ((omega arith, omega arith, omega arith), ((refl, omega arith), (no_marks, tt))))
+pub invariant_of-result : goal.invariant_of-result
+invariant_of-result c = record { arrays = (refl, refl, refl); sizes = (omega arith, omega arith, omega arith); lie = (refl, omega arith); marks = no_marks }

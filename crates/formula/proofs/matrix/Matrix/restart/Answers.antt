@@ -2,5 +2,5 @@ use Rattle.std.proofs.Common.{refl, arith}
 use Rattle.formula.proofs.Rows.{no_marks}
 use Rattle.formula.proofs.matrix.Matrix.restart.Goals as goal
 
-pub invariant-of-self : goal.invariant-of-self
-invariant-of-self c = ((omega arith, omega arith, refl), ((omega arith, omega arith, omega arith), ((refl, omega arith), (no_marks, tt))))
+pub invariant_of-self : goal.invariant_of-self
+invariant_of-self c = record { arrays = (omega arith, omega arith, refl); sizes = (omega arith, omega arith, omega arith); lie = (refl, omega arith); marks = no_marks }

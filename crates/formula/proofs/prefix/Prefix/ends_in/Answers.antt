@@ -1,4 +1,4 @@
-use Rattle.std.proofs.Common.{◌≡◌, ℕ, ◌+◌, ◌-◌, take, sym, ap, ◌∙◌, arith}
+use Rattle.std.proofs.Common.{◌≡◌, ◌+◌, ◌-◌, take, sym, ap, ◌∙◌, arith}
 use Rattle.formula.specs.Prefix.{ends_in, blocks_in}
 use Rattle.formula.proofs.Blocks.{ends_in_kept}
 use Rattle.formula.proofs.prefix.Prefix.ends_in.Goals as goal

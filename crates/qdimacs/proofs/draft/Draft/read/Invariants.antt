@@ -1,4 +1,4 @@
-use Rattle.std.proofs.Common.{◌≡◌, ◌≤◌, length}
+use Rattle.std.proofs.Common.{◌≡◌, length}
 use Rattle.words.specs.Text.{tokens_from}
 use Rattle.qdimacs.specs.Reading.{run, reading}
 use Rattle.qdimacs.specs.View.{state_of}

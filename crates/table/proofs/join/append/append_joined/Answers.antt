@@ -18,18 +18,18 @@ loop-met-init g c = begins _ _ _ _ _ _ _ (first_begun g c) (second_begun g c)
 
 pub loop-met-preserved-then-key-without : goal.loop-met-preserved-then-key-without
 loop-met-preserved-then-key-without g c =
-    appended _ _ _ _ _ c.loop-met.invariant c.as-slice.ensures c.in-Some.ensures c.joined-entry.ensures
+    appended _ _ _ _ _ c.loop-met.invariant c.as_slice.ensures c.in-Some.ensures c.joined-entry.ensures
     (λ same. c.if-key-without.true (c.key.ensures ∙ same)) c.push.ensures
 
 pub loop-met-preserved : goal.loop-met-preserved
 loop-met-preserved g c =
-    left_out _ _ _ _ _ c.loop-met.invariant c.as-slice.ensures c.in-Some.ensures c.joined-entry.ensures
+    left_out _ _ _ _ _ c.loop-met.invariant c.as_slice.ensures c.in-Some.ensures c.joined-entry.ensures
     (sym c.key.ensures ∙ c.if-key-without.false)
 
 pub returns : goal.returns
 returns g c =
     let start = (goal.at.returns g c).After-new-walk in
     record {
-      grown = all_appended _ _ _ _ _ c.loop-met.invariant c.as-slice.ensures _ _ c.in-default.ensures.cases.0 (first_begun g start) (second_begun g start);
+      grown = all_appended _ _ _ _ _ c.loop-met.invariant c.as_slice.ensures _ _ c.in_default.ensures.cases.0 (first_begun g start) (second_begun g start);
       stays = c.loop-met.invariant.stays;
     }

@@ -4,8 +4,8 @@ use Rattle.std.proofs.lemmas.List.{take_more_set, drop-set-lt, drop-drop}
 use Rattle.table.proofs.Fronts.{left_within}
 use Rattle.table.proofs.slab.Table.append.Goals as goal
 
-pub offset-bounds-self-place : goal.offset-bounds-self-place
-offset-bounds-self-place g c =
+pub offset_bounds-self-place : goal.offset_bounds-self-place
+offset_bounds-self-place g c =
     let t = c.args.self.now in
     let within : t.len < length t.slots.now = left_within t.slots.now t.len c.requires in
     search rules
@@ -13,8 +13,8 @@ offset-bounds-self-place g c =
 pub bounds-self-place : goal.bounds-self-place
 bounds-self-place g c = left_within _ _ c.requires
 
-pub overflow-add-self : goal.overflow-add-self
-overflow-add-self g c =
+pub overflow_add-self : goal.overflow_add-self
+overflow_add-self g c =
     let t = c.args.self.now in
     let within : t.len < length t.slots.now = left_within t.slots.now t.len c.requires in
     search rules

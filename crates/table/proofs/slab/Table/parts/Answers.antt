@@ -4,6 +4,6 @@ use Rattle.table.proofs.slab.Table.parts.Goals as goal
 
 pub returns : goal.returns
 returns g c = record {
-  held = c.split-at.ensures.front ∙ take_min _ _ _ c.min-used.ensures;
-  unused = c.split-at.ensures.back ∙ drop_min _ _ _ c.min-used.ensures;
+  held = c.split_at.ensures.front ∙ take_min _ _ _ c.min-used.ensures;
+  unused = c.split_at.ensures.back ∙ drop_min _ _ _ c.min-used.ensures;
 }

@@ -2,13 +2,13 @@ use Rattle.std.proofs.Common.{sym, ap, ◌∙◌}
 use Rattle.qdimacs.specs.Reading.{State, left_formula}
 use Rattle.qdimacs.proofs.Exactly.{well_left, exact}
 use Rattle.qdimacs.proofs.Stops.{stops}
-use Rattle.qdimacs.proofs.formula.Formula.read.Goals as goal
+use Rattle.qdimacs.proofs.sealed.Formula.read.Goals as goal
 
 -- the seal is set only where the text was accepted
-pub invariant-of-self : goal.invariant-of-self
-invariant-of-self c =
+pub invariant_of-self : goal.invariant_of-self
+invariant_of-self c =
     let read = c.read-read.ensures in
-    (λ ok. well_left c.args.text.now c.read-read.result _ read.left read.refusal (sym c.is-ok-self.ensures.value ∙ ok), tt)
+    record { whole = λ ok. well_left c.args.text.now c.read-read.result _ read.left read.refusal (sym c.is_ok-self.ensures.value ∙ ok) }
 
 pub returns : goal.returns
 returns c =
@@ -19,5 +19,5 @@ returns c =
       stops = stops c.args.text.now c.read-read.result read.refusal;
       left = left;
       refusal = read.refusal;
-      seal = c.is-ok-self.ensures.value;
+      seal = c.is_ok-self.ensures.value;
     }
