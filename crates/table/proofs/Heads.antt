@@ -1,14 +1,13 @@
 -- A walk's step: what the first entries of two lists say of their meetings.
-use Rattle.std.proofs.Common.{◌≡◌, ℕ, suc, ◌+◌, ◌-◌, ◌<◌, ◌≤◌, min, true, false, ltb, List, [], ◌∷◌, length, get_or, take, drop, Some, None, Option, sym, refl, ap, ◌∙◌, subst, ap₂, inl, inr, arith, length-take, MatchOption}
+use Rattle.std.proofs.Common.{◌≡◌, ℕ, suc, ◌+◌, ◌-◌, ◌<◌, ◌≤◌, min, ltb, List, [], ◌∷◌, length, get_or, take, drop, Some, None, Option, sym, refl, ap, ◌∙◌, subst, ap₂, inl, inr, arith, length-take, MatchOption}
 use Rattle.std.proofs.lemmas.List.{drop-drop, drop_all, drop_more}
 use Rattle.std.proofs.lemmas.Slice.{between_is}
 use Rattle.std.proofs.lemmas.Bool.{cases_Bool}
-use Rattle.std.specs.List.{between, slice_get}
+use Rattle.std.specs.List.{slice_get}
 use Rattle.table.specs.declared.join.Meeting.{Meeting}
-use Rattle.table.specs.declared.join.Meeting.TheVariants.{First, Second, Both}
 use Rattle.table.specs.declared.join.Span.{Span}
 use Rattle.table.specs.declared.join.Walk.{Walk}
-use Rattle.table.specs.Joins.{part, past, of_first, of_second, places_left, first_of, next_of, meetings_from, meetings, ahead, Stepped}
+use Rattle.table.specs.Joins.{part, past, of_first, of_second, next_of, meetings_from, meetings, ahead, Stepped}
 
 -- ---- the first entry of a part
 

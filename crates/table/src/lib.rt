@@ -21,7 +21,7 @@ mod tests {
         assert_eq!(rt; table.get(2), None);
         assert_eq!(rt; table.push(7).ok(), Some(2));
         assert_eq!(rt; table.push(8).ok(), None);
-        assert!(rt; table.as_slice() == &[5, 6, 7]);
+        assert!(rt; table.as_slice() == [5, 6, 7].as_slice());
     }
 
     #[test]

@@ -1,4 +1,4 @@
-use Rattle.std.proofs.Common.{◌<◌, ◌≤◌, sym, subst}
+use Rattle.std.proofs.Common.{◌<◌, ◌≤◌, subst}
 use Rattle.table.proofs.Heads.{head_there, head_past}
 use Rattle.table.proofs.join.Span.head.Goals as goal
 
