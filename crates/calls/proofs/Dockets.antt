@@ -2,7 +2,7 @@
 use Rattle.std.proofs.Common.{◌≡◌, ℕ, ◌+◌, ◌<◌, ◌≤◌, Bool, true, false, cond, not, ◌&&◌, leb, ◌↔◌, List, length, Ok, Err, Result, refl, arith}
 use Rattle.std.proofs.lemmas.Bool.{and_parts, and_from, not-true, ltb-true, leb-true, lt-ltb, le-leb}
 use Rattle.refusal.specs.declared.Layer.{Layer}
-use Rattle.refusal.specs.declared.Layer.TheVariants.{Docket as any-layer}
+use Rattle.refusal.specs.declared.Layer.TheVariants.{Docket as any_layer}
 use Rattle.formula.specs.declared.letter.Literal.{Literal}
 use Rattle.formula.specs.Prefix.{order}
 use Rattle.formula.specs.Formula.{row_bound}
@@ -55,14 +55,14 @@ pub record Accepted (G : Ground) (D : Docket) (o : Origin) (r : Record) : Type 0
 -- From the tests to the rules: the step of a call that passes its tests is accepted. And back: a step that may be entered passes the
 -- tests of its call, and its record is the one that the call makes.
 module _ (G : Ground) (D : Docket) (s : Sound G D.steps) where
-  may_enter : (o : Origin) (r : Record) → same_size G.formula G D ≡ true → AllHold (room_tests any-layer D r)
+  may_enter : (o : Origin) (r : Record) → same_size G.formula G D ≡ true → AllHold (room_tests any_layer D r)
       → Allowed (side_of G) (calculus_of G) D.steps (length D.steps + 1) o r → Above 0 r → MayEnter G D o r
   may_enter o r same room allowed up =
-      let fits = (room_told any-layer D r).0 room in
+      let fits = (room_told any_layer D r).0 room in
       record { sizes = same; allowed = allowed; rises = up; step_fits = fits.0; marks_fit = fits.1 }
 
-  room_back : {o : Origin} {r : Record} → MayEnter G D o r → AllHold (room_tests any-layer D r)
-  room_back {o} {r} m = (room_told any-layer D r).1 (m.step_fits, m.marks_fit)
+  room_back : {o : Origin} {r : Record} → MayEnter G D o r → AllHold (room_tests any_layer D r)
+  room_back {o} {r} m = (room_told any_layer D r).1 (m.step_fits, m.marks_fit)
 
   pub leaf_accepted : (ls : List Literal) → AllHold (leaf_tests G.formula G D ls) → Accepted G D Leaf (marked ls)
   leaf_accepted ls (same, (bound, (up, (adm, room)))) =

@@ -3,7 +3,7 @@ use Rattle.std.specs.Prelude.{ℕ, ◌+◌, min, Bool, ◌&&◌, List, [], ◌�
 use Rattle.std.specs.List.{flat_map}
 use Rattle.refusal.specs.declared.Reason.TheVariants.{SizesDiffer, NotEarlier, LeafUnbound, NotRising, NotAdmitted, PivotNotOpponents, PivotMarks, OpponentClash, OwnClash, EmptyTail, StepsFull, MarksFull, NoEmptyRecord}
 use Rattle.refusal.specs.declared.Layer.{Layer}
-use Rattle.refusal.specs.declared.Layer.TheVariants.{Docket as by-docket, Leaf as by_leaf, Resolve as by_resolve, Reduce as by_reduce, Close as by_close}
+use Rattle.refusal.specs.declared.Layer.TheVariants.{Docket as by_docket, Leaf as by_leaf, Resolve as by_resolve, Reduce as by_reduce, Close as by_close}
 use Rattle.formula.specs.declared.letter.Literal.{Literal}
 use Rattle.formula.specs.Prefix.{order}
 use Rattle.formula.specs.Formula.{Formula, row_bound}
@@ -66,7 +66,7 @@ enter D o r = (Ok (length D.steps + 1), with_step D o r)
 
 abbrev pub leaf_tests : Formula → Ground → Docket → List Literal → List Test
 leaf_tests F G D ls =
-    test (same_size F G D) by-docket SizesDiffer
+    test (same_size F G D) by_docket SizesDiffer
     ∷ test (row_bound (order F.blocks) ls) by_leaf LeafUnbound
     ∷ test (rising 0 ls) by_leaf NotRising
     ∷ test (admits_leaf G ls) by_leaf NotAdmitted
@@ -83,7 +83,7 @@ resolve_tests F G D p i j =
     let S = side_at F G in
     let r = marks_of D.steps i in
     let s = marks_of D.steps j in
-    test (same_size F G D) by-docket SizesDiffer
+    test (same_size F G D) by_docket SizesDiffer
     ∷ test (has_step D i && has_step D j) by_resolve NotEarlier
     ∷ test (opponents S p) by_resolve PivotNotOpponents
     ∷ test (pivot_marks p r s) by_resolve PivotMarks
@@ -102,7 +102,7 @@ abbrev pub reduce_tests : Formula → Ground → Docket → ℕ → List Test
 reduce_tests F G D j =
     let S = side_at F G in
     let r = marks_of D.steps j in
-    test (same_size F G D) by-docket SizesDiffer
+    test (same_size F G D) by_docket SizesDiffer
     ∷ test (has_step D j) by_reduce NotEarlier
     ∷ test (some_var (over S r) r) by_reduce EmptyTail
     ∷ room_tests by_reduce D (reduced S r)
@@ -115,7 +115,7 @@ reduce F G D j = tested (reduce_tests F G D j) D (enter D (Reduce j) (reduced (s
 
 abbrev pub close_tests : Formula → Ground → Docket → List Test
 close_tests F G D =
-    test (same_size F G D) by-docket SizesDiffer
+    test (same_size F G D) by_docket SizesDiffer
     ∷ test (nat_le 1 (lowest_empty D.steps)) by_close NoEmptyRecord
     ∷ []
 

@@ -3,7 +3,7 @@ use Rattle.std.specs.Prelude.{◌≡◌, ℕ, List, [], ◌∷◌, take, Ok, Err
 use Rattle.refusal.specs.declared.Reason.{Reason}
 use Rattle.refusal.specs.declared.Reason.TheVariants.{SizesDiffer, NotEarlier, LeafUnbound, NotRising, NotAdmitted, PivotNotOpponents, PivotMarks, OpponentClash, OwnClash, EmptyTail, StepsFull, MarksFull, NoEmptyRecord}
 use Rattle.refusal.specs.declared.Layer.{Layer}
-use Rattle.refusal.specs.declared.Layer.TheVariants.{Docket as by-docket, Leaf as by_leaf, Resolve as by_resolve, Reduce as by_reduce, Close as by_close}
+use Rattle.refusal.specs.declared.Layer.TheVariants.{Docket as by_docket, Leaf as by_leaf, Resolve as by_resolve, Reduce as by_reduce, Close as by_close}
 use Rattle.formula.specs.declared.letter.Letter.TheVariants.{Universal, Existential}
 use Rattle.formula.specs.declared.letter.Literal.{Literal}
 use Rattle.formula.specs.Formula.{Formula}
@@ -128,7 +128,7 @@ pub record StepExamples : Type 0 where
   pub few_step_1 : leaf K G (few_marks []) row_1 ≡ (Ok 1, few_marks (take 1 K_steps))
   pub marks_full : Refused (leaf K G (few_marks (take 1 K_steps)) row_2) by_leaf MarksFull (few_marks (take 1 K_steps))
   -- another n
-  pub other_size : Refused (leaf K G (opened 3 4096 16384) row_1) by-docket SizesDiffer (opened 3 4096 16384)
+  pub other_size : Refused (leaf K G (opened 3 4096 16384) row_1) by_docket SizesDiffer (opened 3 4096 16384)
   -- cubes
   pub Q_start : opened 2 4096 16384 ≡ after_Q 0
   pub Q_step_1 : leaf Q U (after_Q 0) cube_1 ≡ (Ok 1, after_Q 1)

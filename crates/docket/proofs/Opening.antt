@@ -22,12 +22,12 @@ module _ (steps : Table StoredStep) (marks : Table Entry) (no_steps : entries st
   unfolding all_rise
   none_rise = ap (λ l. all_rise (steps_in l (entries marks))) no_steps
 
-  module _ (xs : List StoredStep) (ys : List Entry) (step-memory : free steps ≡ take 4096 xs) (mark-memory : free marks ≡ take 16384 ys) where
+  module _ (xs : List StoredStep) (ys : List Entry) (step_memory : free steps ≡ take 4096 xs) (mark_memory : free marks ≡ take 16384 ys) where
     step_places : places steps ≡ min 4096 (length xs)
-    step_places = omega (arith, ap length no_steps, ap length step-memory, length-take 4096 xs)
+    step_places = omega (arith, ap length no_steps, ap length step_memory, length-take 4096 xs)
 
     mark_places : places marks ≡ min 16384 (length ys)
-    mark_places = omega (arith, ap length no_marks, ap length mark-memory, length-take 16384 ys)
+    mark_places = omega (arith, ap length no_marks, ap length mark_memory, length-take 16384 ys)
 
     pub few_places : places steps ≤ 4096
     few_places = omega (arith, step_places)

@@ -4,7 +4,7 @@ ghost use Rattle.std.specs.List.{between};
 ghost use Rattle.table.specs.Entries.{entries, free, Grown};
 ghost use Rattle.game.specs.Records.{ceiling, over, some_var};
 ghost use Rattle.game.specs.Functions.{kept, reduced};
-ghost use Rattle.docket.specs.Sides.{seen, stays as stays-under};
+ghost use Rattle.docket.specs.Sides.{seen, stays as stays_under};
 
 use crate::side::Side;
 use game::record::Entry;
@@ -31,14 +31,14 @@ fn ceiling_of(side: &Side<'_>, marks: &[Entry]) -> usize
 
 // Whether a variable stays: it is the opponent's, or not above the ceiling.
 fn stays(side: &Side<'_>, ceiling: usize, variable: u32) -> bool
-    ensures { result ≡ stays-under (seen side.now) ceiling variable }
+    ensures { result ≡ stays_under (seen side.now) ceiling variable }
 {
     !(side.mine(variable) && ceiling < side.level(variable))
 }
 
 // How many entries of the record stay.
 fn kept_len(side: &Side<'_>, ceiling: usize, marks: &[Entry]) -> usize
-    ensures { result ≡ length (kept (stays-under (seen side.now) ceiling) marks.now) }
+    ensures { result ≡ length (kept (stays_under (seen side.now) ceiling) marks.now) }
 {
     let mut count = 0;
     for entry in marks {
@@ -81,8 +81,8 @@ pub(crate) fn append_kept(
     to: usize,
 )
     requires within { to ≤ length (entries marks.old) }
-    requires room { length (kept (stays-under (seen side.now) ceiling) (between from to (entries marks.old))) ≤ length (free marks.old) }
-    ensures { Grown marks.old (kept (stays-under (seen side.now) ceiling) (between from to (entries marks.old))) marks.new }
+    requires room { length (kept (stays_under (seen side.now) ceiling) (between from to (entries marks.old))) ≤ length (free marks.old) }
+    ensures { Grown marks.old (kept (stays_under (seen side.now) ceiling) (between from to (entries marks.old))) marks.new }
 {
     for i in from..to {
         let entry = marks.as_slice()[i];

@@ -4,8 +4,8 @@ use Rattle.std.proofs.lemmas.Bool.{and_parts, and_from, leb-true, le-leb, eqb-tr
 use Rattle.formula.specs.Formula.{Formula, WellFormed, well_formed}
 
 pub tested : (F : Formula) → well_formed F ≡ true → WellFormed F
-tested F yes-all =
-    let a = and_parts _ _ yes-all in
+tested F yes_all =
+    let a = and_parts _ _ yes_all in
     let b = and_parts _ _ a.1 in
     let c = and_parts _ _ b.1 in
     let d = and_parts _ _ c.1 in

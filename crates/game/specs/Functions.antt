@@ -21,7 +21,7 @@ joined_mark Star Plus = Star
 joined_mark Star Minus = Star
 joined_mark Star Star = Star
 
--- Two rising records in one. `merge-from e rest s` puts e, and what `rest` makes of the first record's later entries, in among s.
+-- Two rising records in one. `merge_from e rest s` puts e, and what `rest` makes of the first record's later entries, in among s.
 unfoldable pub merge_from : Entry → (Record → Record) → Record → Record
 merge_from e rest [] = e ∷ rest []
 merge_from e rest (d ∷ s) =

@@ -53,7 +53,7 @@ ceiling S (e ∷ r) = cond (S.mine e.variable) (ceiling S r) (max (S.level e.var
 abbrev pub over : Side → Record → ℕ → Bool
 over S r x = S.mine x && nat_lt (ceiling S r) (S.level x)
 
--- The tail of a record: its own variables whose level is above that of every opponent's variable in it (`Tail-in-words`). The
+-- The tail of a record: its own variables whose level is above that of every opponent's variable in it (`TailInWords`). The
 -- rest of the record is its base.
 abbrev pub in_tail : Side → Record → ℕ → Bool
 in_tail S r x = named r x && over S r x

@@ -12,7 +12,7 @@ use formula::letter::Literal;
 pub trait Ground {
     type Own: Sided;
 
-    // Own side. In code `G::OWN.letter()`, in a clause `Own.Sided.own`.
+    // Own side. In code `G::OWN.letter()`, in a clause `Self.Own.Sided.own`.
     const OWN: Self::Own;
 
     ghost meaning: { Self → Meaning };

@@ -4,7 +4,7 @@ ghost use Rattle.formula.specs.Formula.{row_bound};
 ghost use Rattle.formula.specs.Prefix.{has_var, order};
 ghost use Rattle.game.specs.Grounds.{leaf_over, some_literal};
 ghost use Rattle.game.specs.Leaves.{each_literal, rising};
-ghost use Rattle.ground.specs.Codes.{CodesTold, code as code_of_lem, marked_as};
+ghost use Rattle.ground.specs.Codes.{CodesTold, code as code_of, marked_as};
 
 use crate::whole::Whole;
 use formula::letter::Literal;
@@ -49,7 +49,7 @@ pub(crate) fn is_leaf<F: Whole>(formula: &F, leaf: &[Literal]) -> bool
 
 // The mark of a sign.
 pub(crate) fn code(positive: bool) -> u8
-    ensures { result ≡ code_of_lem positive }
+    ensures { result ≡ code_of positive }
 {
     if positive { 1 } else { 2 }
 }

@@ -7,7 +7,7 @@ use Rattle.formula.specs.Formula.{Formula, WellFormed}
 use Rattle.words.specs.Text.{Lexeme, body, tokens_from}
 use Rattle.qdimacs.specs.declared.phase.Fault.{Fault}
 use Rattle.qdimacs.specs.Reading.{State, Outcome, nothing, step, lacks, stopped, run, reading, at_place}
-use Rattle.qdimacs.specs.Refused.{bare, place_of, Goes_on, Stops, Stopped}
+use Rattle.qdimacs.specs.Refused.{bare, place_of, GoesOn, Stops, Stopped}
 use Rattle.qdimacs.specs.View.{refusal_of}
 use Rattle.qdimacs.specs.Written.{written_by, Good, Sound}
 use Rattle.qdimacs.proofs.Accepts.{after, reads_formula}
@@ -36,7 +36,7 @@ pub record At (all : List (ℕ × Lexeme)) (stop : ℕ) (r : Refusal) (left : St
   pub place : r.place ≡ place_of stop rest
   pub read : written_by left ≡ bare before
   pub sound : Sound left.prefix left.matrix
-  pub no_way : (F : Formula) → WellFormed F → Goes_on (bare before) rest F → ⊥
+  pub no_way : (F : Formula) → WellFormed F → GoesOn (bare before) rest F → ⊥
 
 module _ (stop : ℕ) (all : List (ℕ × Lexeme)) (r : Refusal) where
   -- the text ends here, and something is lacking
@@ -90,12 +90,12 @@ module _ (stop : ℕ) (all : List (ℕ × Lexeme)) (r : Refusal) where
       by more (Ok n) did h =
           let one = next s.phase s.prefix s.matrix t.1 n g did in
           let longer = map_push (λ (k : ℕ × Lexeme). k.1) front t in
-          let step-on = ap (λ (k : Result State Fault). elim k as (λ _. Option State) [ Ok m ↦ Some m | Err e ↦ None ]) did in
+          let step_on = ap (λ (k : Result State Fault). elim k as (λ _. Option State) [ Ok m ↦ Some m | Err e ↦ None ]) did in
           more n
           (is ∙ sym (append_assoc front (t ∷ []) ts))
           one.good
           (one.words ∙ ap (λ (l : List Lexeme). l ++ t.1 ∷ []) words ∙ sym longer)
-          (ap (after nothing) longer ∙ after_more (bare front) (t.1 ∷ []) nothing s leads ∙ step-on)
+          (ap (after nothing) longer ∙ after_more (bare front) (t.1 ∷ []) nothing s leads ∙ step_on)
           h
 
 -- a text that is refused, and is not too long

@@ -17,9 +17,9 @@ place_of end [] = end
 place_of end (t ∷ ts) = t.0
 
 -- the formula is written by these words, and then the next one, if there is one
-abbrev pub Goes_on : List Lexeme → List (ℕ × Lexeme) → Formula → Type 0
-Goes_on front [] F = formula_words F ≡ front
-Goes_on front (t ∷ ts) F = (more : List Lexeme) × (formula_words F ≡ front ++ t.1 ∷ more)
+abbrev pub GoesOn : List Lexeme → List (ℕ × Lexeme) → Formula → Type 0
+GoesOn front [] F = formula_words F ≡ front
+GoesOn front (t ∷ ts) F = (more : List Lexeme) × (formula_words F ≡ front ++ t.1 ∷ more)
 
 -- The reading stops at the first word of `rest`, or at the end: the words before are those that write what is left, what is left
 -- breaks no condition, and no well-formed formula goes on like this.
@@ -30,7 +30,7 @@ pub record Stops (text : List ℕ) (r : Refusal) (left : State) : Type 0 where
   pub place : r.place ≡ place_of (length text) rest
   pub read : written_by left ≡ bare before
   pub sound : Sound left.prefix left.matrix
-  pub no_way : (F : Formula) → WellFormed F → Goes_on (bare before) rest F → ⊥
+  pub no_way : (F : Formula) → WellFormed F → GoesOn (bare before) rest F → ⊥
 
 -- what a refusal of a text that is not too long says
 abbrev pub Stopped : {X : Type 0} → List ℕ → Result X Refusal → State → Type 0

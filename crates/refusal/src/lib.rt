@@ -2,7 +2,7 @@
 #![tactic(auto)]
 
 ghost use Rattle.std.specs.Prelude.{◌≡◌};
-ghost use Rattle.refusal.specs.Numbers.{ToldApart, name as layer-name, number as reason-number, text as reason-text};
+ghost use Rattle.refusal.specs.Numbers.{ToldApart, name as layer_name, number as reason_number, text as reason_text};
 
 // What is wrong. The comment behind each is the number that the programs print.
 #[derive(Clone, Copy, Debug, PartialEq)]
@@ -78,7 +78,7 @@ pub struct Refusal {
 impl Reason {
     // The number that the programs print.
     pub fn number(self) -> u8
-        ensures { result ≡ reason-number self }
+        ensures { result ≡ reason_number self }
     {
         match self {
             Reason::TextTooLong => 1,
@@ -124,7 +124,7 @@ impl Reason {
 
     // What it says, for people.
     pub fn text(self) -> &'static str
-        ensures { result.now ≡ reason-text self }
+        ensures { result.now ≡ reason_text self }
     {
         match self {
             Reason::TextTooLong => "the text is longer than 65,536 bytes",
@@ -175,7 +175,7 @@ impl Reason {
 
 impl Layer {
     pub fn name(self) -> &'static str
-        ensures { result.now ≡ layer-name self }
+        ensures { result.now ≡ layer_name self }
     {
         match self {
             Layer::Text => "text",

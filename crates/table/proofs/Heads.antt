@@ -81,8 +81,8 @@ module _ {T : Type 0} (key : T → ℕ) where
 
       pub steps_on : {a b : ℕ} {s t : Span} → s ≡ past a w.first → t ≡ past b w.second → a ≡ of_first m → b ≡ of_second m
           → Stepped key xs w (Some m) (record { first = s; second = t })
-      steps_on s-is t-is a-is b-is =
+      steps_on s-is t_is a_is b-is =
           let P : Walk → Type 0 = Stepped key xs w (Some m) in
           subst P
-          (sym (ap₂ (λ (s t : Span). record { first = s; second = t }) (s-is ∙ ap (λ n. past n w.first) a-is) (t-is ∙ ap (λ n. past n w.second) b-is)))
+          (sym (ap₂ (λ (s t : Span). record { first = s; second = t }) (s-is ∙ ap (λ n. past n w.first) a_is) (t_is ∙ ap (λ n. past n w.second) b-is)))
           stepped

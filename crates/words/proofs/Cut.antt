@@ -34,11 +34,11 @@ pub record InWord (text : List ℕ) (at i : ℕ) : Type 0 where
 
 module _ (text : List ℕ) (at i : ℕ) (so : InWord text at i) where
   pub one_more : i < length text → separator (get_or text i 0) ≡ false → InWord text at (i + 1)
-  one_more h no-sep = record {
+  one_more h no_sep = record {
     from = omega (arith, so.from);
     within = omega arith;
-    same = sym (word_goes_on text i h no-sep) ∙ so.same;
-    cut = so.cut ∙ ap (λ l. take (i - at) (drop at text) ++ l) (front_more text i h no-sep)
+    same = sym (word_goes_on text i h no_sep) ∙ so.same;
+    cut = so.cut ∙ ap (λ l. take (i - at) (drop at text) ++ l) (front_more text i h no_sep)
         ∙ sym (append_assoc (take (i - at) (drop at text)) (get_or text i 0 ∷ []) (front (drop (i + 1) text)))
         ∙ ap (λ l. l ++ front (drop (i + 1) text)) (sym longer);
   }

@@ -106,7 +106,7 @@ module _ (text : List ℕ) where
 
   -- a byte from offset i on that is no separator lies in a word that begins there, or in one that goes on there
   abbrev Reached : List Word → Bool → ℕ → List ℕ → ℕ → Type 0
-  Reached ws inside i front-here j = Covered ws j ⊎ ((inside ≡ true) × (j < i + length front-here))
+  Reached ws inside i front_here j = Covered ws j ⊎ ((inside ≡ true) × (j < i + length front_here))
 
   covered_later : (w : Word) (ws : List Word) (j : ℕ) → Covered ws j → Covered (w ∷ ws) j
   covered_later w ws j (k, v, m, low, high) = (suc k, v, m, low, high)
@@ -139,7 +139,7 @@ module _ (text : List ℕ) where
 
 -- each word lies from offset i on, and after a word that goes on there
 abbrev Later : Bool → ℕ → List ℕ → List Word → Type 0
-Later inside i front-here ws = (k : ℕ) (w : Word) → slice_get ws k ≡ Some w → cond inside (i + length front-here < w.at) (i ≤ w.at)
+Later inside i front_here ws = (k : ℕ) (w : Word) → slice_get ws k ≡ Some w → cond inside (i + length front_here < w.at) (i ≤ w.at)
 
 later_step : (i b : ℕ) (bs : List ℕ) → ((inside : Bool) → Later inside (i + 1) (front bs) (words inside (i + 1) bs))
     → (s inside : Bool) → Later inside i (cond s [] (b ∷ front bs)) (words_by s inside i b bs)

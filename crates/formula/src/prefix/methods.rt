@@ -1,6 +1,6 @@
 ghost use Rattle.std.specs.Prelude.{◌≡◌, ◌≤◌, min, length, None, OnErr};
 ghost use Rattle.std.specs.List.{slice_get};
-ghost use Rattle.formula.specs.Prefix.{bind as bound_one, end_block, ends_in, in_range, level as level-of, level_so_far, no_block, order as prefix-order, owner as owner_of, unbindable, unbound, unnameable, with_var};
+ghost use Rattle.formula.specs.Prefix.{bind as bound_one, end_block, ends_in, in_range, level as level_of, level_so_far, no_block, order as prefix_order, owner as owner_of, unbindable, unbound, unnameable, with_var};
 ghost use Rattle.formula.specs.Told.{told};
 ghost use Rattle.formula.specs.View.{prefix_of};
 
@@ -155,7 +155,7 @@ impl Prefix {
 
     // A variable's level, the place of its block from 1; 0 where no complete block has it. In constant time.
     pub fn level(&self, variable: u32) -> usize
-        ensures value { result ≡ level-of (prefix_of self.now).blocks variable }
+        ensures value { result ≡ level_of (prefix_of self.now).blocks variable }
         ensures bound { result ≤ self.now.blocks }
     {
         let mark = self.mark(variable) as usize;
@@ -176,7 +176,7 @@ impl Prefix {
 
     // The variable at place i of the prefix order, counted from 0. In constant time.
     pub fn order_at(&self, i: usize) -> Option<u32>
-        ensures { result ≡ slice_get (prefix-order (prefix_of self.now).blocks) i }
+        ensures { result ≡ slice_get (prefix_order (prefix_of self.now).blocks) i }
     {
         if i < self.start {
             Some(self.order[i])

@@ -1,5 +1,5 @@
 ghost use Rattle.std.specs.Prelude.{◌≡◌, length};
-ghost use Rattle.formula.specs.Prefix.{order as prefix-order};
+ghost use Rattle.formula.specs.Prefix.{order as prefix_order};
 ghost use Rattle.formula.specs.View.{prefix_of};
 
 use super::Prefix;
@@ -21,7 +21,7 @@ impl Prefix {
 
     // How many variables the complete blocks bind.
     pub fn order_len(&self) -> usize
-        ensures { result ≡ length (prefix-order (prefix_of self.now).blocks) }
+        ensures { result ≡ length (prefix_order (prefix_of self.now).blocks) }
     {
         self.start
     }

@@ -3,7 +3,7 @@ ghost use Rattle.std.specs.Option.{option_map};
 ghost use Rattle.std.specs.List.{slice_get};
 ghost use Rattle.formula.specs.Formula.{WellFormed};
 ghost use Rattle.formula.specs.Matrix.{all_literals};
-ghost use Rattle.formula.specs.Prefix.{level as level-of, order as prefix-order, owner as owner_of};
+ghost use Rattle.formula.specs.Prefix.{level as level_of, order as prefix_order, owner as owner_of};
 ghost use Rattle.qdimacs.specs.Grammar.{Exact};
 ghost use Rattle.qdimacs.specs.Refused.{Stopped};
 ghost use Rattle.qdimacs.specs.Reading.{left_formula, nothing, reading};
@@ -74,7 +74,7 @@ impl<'a> Sealed<'a> {
 
     // A variable's level, the place of its block from 1; 0 where it is unbound.
     pub fn level(&self, variable: u32) -> usize
-        ensures { result ≡ level-of (sealed_formula self.now).blocks variable }
+        ensures { result ≡ level_of (sealed_formula self.now).blocks variable }
     {
         self.formula.draft.prefix().level(variable)
     }
@@ -88,14 +88,14 @@ impl<'a> Sealed<'a> {
 
     // How many variables are bound.
     pub fn order_len(&self) -> usize
-        ensures { result ≡ length (prefix-order (sealed_formula self.now).blocks) }
+        ensures { result ≡ length (prefix_order (sealed_formula self.now).blocks) }
     {
         self.formula.draft.prefix().order_len()
     }
 
     // The variable at place i of the prefix order, counted from 0.
     pub fn order_at(&self, i: usize) -> Option<u32>
-        ensures { result ≡ slice_get (prefix-order (sealed_formula self.now).blocks) i }
+        ensures { result ≡ slice_get (prefix_order (sealed_formula self.now).blocks) i }
     {
         self.formula.draft.prefix().order_at(i)
     }
