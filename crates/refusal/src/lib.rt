@@ -1,54 +1,58 @@
 // Why a call refuses, for the whole product: each reason has one number, and a refusal tells the layer and the place too.
 #![tactic(auto)]
 
-ghost use Rattle.std.specs.Prelude.{◌≡◌};
+ghost use Rattle.std.specs.Prelude.{◌≡◌, Some};
+ghost use Rattle.refusal.specs.Lines.{refusal_line};
 ghost use Rattle.refusal.specs.Numbers.{ToldApart, name as layer_name, number as reason_number, text as reason_text};
 
-// What is wrong. The comment behind each is the number that the programs print.
-#[derive(Clone, Copy, Debug, PartialEq)]
+use std::error::Error;
+use std::fmt;
+
+// What is wrong. The value of each is the number that the programs print.
+#[derive(Clone, Copy, Debug, PartialEq, Eq)]
 pub enum Reason {
-    TextTooLong, // 1
-    ForeignByte, // 2
-    Misplaced, // 3
-    NotANumber, // 4
-    HeadOutOfRange, // 5
-    VariableOutOfRange, // 6
-    BoundTwice, // 7
-    BadBlock, // 8
-    Unbound, // 9
-    VariableTwice, // 10
-    WrongRowCount, // 11
-    TooMany, // 12
-    TraceTooLong, // 20
-    CutShort, // 21
-    UnknownKind, // 22
-    WrongLength, // 23
-    AfterEnd, // 24
-    SizesDiffer, // 25
-    NotEarlier, // 31
-    LeafUnbound, // 32
-    NotRising, // 33
-    NotAdmitted, // 34
-    PivotNotOpponents, // 35
-    PivotMarks, // 36
-    OpponentClash, // 37
-    OwnClash, // 38
-    EmptyTail, // 39
-    StepsFull, // 40
-    MarksFull, // 41
-    NoEmptyRecord, // 42
-    EndWithoutEmptyRecord, // 43
-    NotBegun, // 51
-    NoVerdict, // 52
-    BytesTooFew, // 53
-    OtherSidesTurn, // 54
-    BoardFull, // 55
-    BoardNotFull, // 56
-    UnknownChoice, // 57
+    TextTooLong = 1,
+    ForeignByte = 2,
+    Misplaced = 3,
+    NotANumber = 4,
+    HeadOutOfRange = 5,
+    VariableOutOfRange = 6,
+    BoundTwice = 7,
+    BadBlock = 8,
+    Unbound = 9,
+    VariableTwice = 10,
+    WrongRowCount = 11,
+    TooMany = 12,
+    TraceTooLong = 20,
+    CutShort = 21,
+    UnknownKind = 22,
+    WrongLength = 23,
+    AfterEnd = 24,
+    SizesDiffer = 25,
+    NotEarlier = 31,
+    LeafUnbound = 32,
+    NotRising = 33,
+    NotAdmitted = 34,
+    PivotNotOpponents = 35,
+    PivotMarks = 36,
+    OpponentClash = 37,
+    OwnClash = 38,
+    EmptyTail = 39,
+    StepsFull = 40,
+    MarksFull = 41,
+    NoEmptyRecord = 42,
+    EndWithoutEmptyRecord = 43,
+    NotBegun = 51,
+    NoVerdict = 52,
+    BytesTooFew = 53,
+    OtherSidesTurn = 54,
+    BoardFull = 55,
+    BoardNotFull = 56,
+    UnknownChoice = 57,
 }
 
 // Which part of the work refuses.
-#[derive(Clone, Copy, Debug, PartialEq)]
+#[derive(Clone, Copy, Debug, PartialEq, Eq)]
 pub enum Layer {
     Text,
     Word,
@@ -68,7 +72,7 @@ pub enum Layer {
 
 // A refusal: why, by which layer, and where. The place is an offset in the file that is read (of a word, a record or a
 // choice; the file's length at its end), and 0 where a single call refuses.
-#[derive(Clone, Copy, Debug, PartialEq)]
+#[derive(Clone, Copy, Debug, PartialEq, Eq)]
 pub struct Refusal {
     pub reason: Reason,
     pub layer: Layer,
@@ -80,53 +84,16 @@ impl Reason {
     pub fn number(self) -> u8
         ensures { result ≡ reason_number self }
     {
-        match self {
-            Reason::TextTooLong => 1,
-            Reason::ForeignByte => 2,
-            Reason::Misplaced => 3,
-            Reason::NotANumber => 4,
-            Reason::HeadOutOfRange => 5,
-            Reason::VariableOutOfRange => 6,
-            Reason::BoundTwice => 7,
-            Reason::BadBlock => 8,
-            Reason::Unbound => 9,
-            Reason::VariableTwice => 10,
-            Reason::WrongRowCount => 11,
-            Reason::TooMany => 12,
-            Reason::TraceTooLong => 20,
-            Reason::CutShort => 21,
-            Reason::UnknownKind => 22,
-            Reason::WrongLength => 23,
-            Reason::AfterEnd => 24,
-            Reason::SizesDiffer => 25,
-            Reason::NotEarlier => 31,
-            Reason::LeafUnbound => 32,
-            Reason::NotRising => 33,
-            Reason::NotAdmitted => 34,
-            Reason::PivotNotOpponents => 35,
-            Reason::PivotMarks => 36,
-            Reason::OpponentClash => 37,
-            Reason::OwnClash => 38,
-            Reason::EmptyTail => 39,
-            Reason::StepsFull => 40,
-            Reason::MarksFull => 41,
-            Reason::NoEmptyRecord => 42,
-            Reason::EndWithoutEmptyRecord => 43,
-            Reason::NotBegun => 51,
-            Reason::NoVerdict => 52,
-            Reason::BytesTooFew => 53,
-            Reason::OtherSidesTurn => 54,
-            Reason::BoardFull => 55,
-            Reason::BoardNotFull => 56,
-            Reason::UnknownChoice => 57,
-        }
+        self as u8
     }
+}
 
-    // What it says, for people.
-    pub fn text(self) -> &'static str
-        ensures { result.now ≡ reason_text self }
-    {
-        match self {
+// What it says, for people.
+impl fmt::Display for Reason {
+    ghost output = { λ r. Some (reason_text r) };
+
+    fn fmt<W: fmt::Write>(&self, f: &mut fmt::Formatter<W>) -> fmt::Result {
+        f.write_str(match self {
             Reason::TextTooLong => "the text is longer than 65,536 bytes",
             Reason::ForeignByte => "a word has a byte that the format does not know",
             Reason::Misplaced => "the text is not of the shape: head, blocks, rows",
@@ -169,15 +136,15 @@ impl Reason {
             Reason::BoardFull => "every variable has a value",
             Reason::BoardNotFull => "not every variable has a value yet",
             Reason::UnknownChoice => "no choice is written so",
-        }
+        })
     }
 }
 
-impl Layer {
-    pub fn name(self) -> &'static str
-        ensures { result.now ≡ layer_name self }
-    {
-        match self {
+impl fmt::Display for Layer {
+    ghost output = { λ l. Some (layer_name l) };
+
+    fn fmt<W: fmt::Write>(&self, f: &mut fmt::Formatter<W>) -> fmt::Result {
+        f.write_str(match self {
             Layer::Text => "text",
             Layer::Word => "word",
             Layer::Head => "head",
@@ -192,9 +159,22 @@ impl Layer {
             Layer::Close => "close",
             Layer::Board => "board",
             Layer::Choices => "choices",
-        }
+        })
     }
 }
+
+// `refused`, the number of the reason, and the place: the line that the programs print.
+impl fmt::Display for Refusal {
+    ghost output = { λ r. Some (refusal_line r) };
+
+    fn fmt<W: fmt::Write>(&self, f: &mut fmt::Formatter<W>) -> fmt::Result {
+        let number = self.reason.number();
+        let place = self.place;
+        write!(f, "refused {number} {place}")
+    }
+}
+
+impl Error for Refusal {}
 
 // No two reasons have the same number.
 pub fn numbers_apart()
