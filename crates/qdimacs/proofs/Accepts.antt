@@ -18,7 +18,7 @@ use Rattle.qdimacs.specs.declared.phase.Phase.TheVariants.{Variables, RowCount, 
 use Rattle.qdimacs.specs.declared.phase.Move.{Move}
 use Rattle.qdimacs.specs.declared.phase.Move.TheVariants.{Variables as VariableCount, Head, Open, Bind, EndBlock, Add, EndRow}
 use Rattle.qdimacs.specs.declared.phase.Fault.{Fault}
-use Rattle.qdimacs.specs.Moves.{decide, row_number}
+use Rattle.qdimacs.specs.Moves.{bad_head, counted as as_move, decide, row_number}
 use Rattle.qdimacs.specs.Reading.{State, Outcome, nothing, in_phase, with_matrix, in_block, opened, apply, step, lacks, stopped, run, reading, left_formula}
 use Rattle.qdimacs.specs.Grammar.{Writes, letter_byte, literal_number, zero_word, variable_word, literal_word, head_words, block_words, row_words, formula_words}
 use Rattle.qdimacs.specs.Refused.{bare}
@@ -106,8 +106,8 @@ reads_head n m ts few less =
     let counted = in_phase (RowCount n) nothing in
     let kept : min n 1024 ≡ n = omega arith in
     let due : min m 4096 ≡ m = omega arith in
-    reads named counted (number_of (pos n)) (VariableCount n) (number_of (pos m) ∷ ts) (cond-true _ _ _ (le-leb n 1024 few)) refl
-    ∙ reads counted (with_blocks n [] (no_rows m)) (number_of (pos m)) (Head n m) ts (cond-true _ _ _ (le-leb m 4096 less))
+    reads named counted (number_of (pos n)) (VariableCount n) (number_of (pos m) ∷ ts) (ap (as_move VariableCount) (cond-true _ (Ok n) (Err bad_head) (le-leb n 1024 few))) refl
+    ∙ reads counted (with_blocks n [] (no_rows m)) (number_of (pos m)) (Head n m) ts (ap (as_move (Head n)) (cond-true _ (Ok m) (Err bad_head) (le-leb m 4096 less)))
     (ap₂ (λ (k d : ℕ). Ok (with_blocks k [] (no_rows d))) kept due)
 
 -- ---- the blocks

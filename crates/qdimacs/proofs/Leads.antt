@@ -21,7 +21,7 @@ use Rattle.qdimacs.specs.declared.phase.Phase.TheVariants.{Start, Format, Variab
 use Rattle.qdimacs.specs.declared.phase.Move.{Move}
 use Rattle.qdimacs.specs.declared.phase.Move.TheVariants.{Problem, Format as Named, Variables as VariableCount, Head, Open, Bind, EndBlock, Add, EndRow}
 use Rattle.qdimacs.specs.declared.phase.Fault.{Fault}
-use Rattle.qdimacs.specs.Moves.{misplaced, not_a_number, foreign_byte, bad_head, due, row_number}
+use Rattle.qdimacs.specs.Moves.{misplaced, not_a_number, foreign_byte, bad_head, counted, due, row_number}
 use Rattle.qdimacs.specs.Reading.{State, apply, step, by_layer, in_block, in_row, opened, named, lacks, run, stopped, reading, nothing, Outcome, left_formula}
 use Rattle.qdimacs.specs.Grammar.{letter_byte, literal_word, variable_word, zero_word, head_words, block_words, row_words, formula_words, Writes}
 use Rattle.qdimacs.specs.Refused.{bare}
@@ -75,7 +75,7 @@ at_variables : (p : PrefixModel) (m : MatrixModel) (k : ℕ) (n : State) → Goo
     → Next (letter 112 ∷ stray (codes "cnf") ∷ []) (number_of (pos k)) n
 at_variables p m k n g e = by (leb k 1024) refl e
   where
-    by : (t : Bool) → leb k 1024 ≡ t → moved (st Variables p m) (cond t (Ok (VariableCount k)) (Err bad_head)) ≡ Ok n → Next (letter 112 ∷ stray (codes "cnf") ∷ []) (number_of (pos k)) n
+    by : (t : Bool) → leb k 1024 ≡ t → moved (st Variables p m) (counted VariableCount (cond t (Ok k) (Err bad_head))) ≡ Ok n → Next (letter 112 ∷ stray (codes "cnf") ∷ []) (number_of (pos k)) n
     by false is h = absurd (no_ok h)
     by true is h =
         subst (Next (letter 112 ∷ stray (codes "cnf") ∷ []) (number_of (pos k))) (same_ok h)
@@ -102,7 +102,7 @@ at_count : (c : ℕ) (p : PrefixModel) (m : MatrixModel) (j : ℕ) (n : State) �
     → Next (letter 112 ∷ stray (codes "cnf") ∷ number_of (pos c) ∷ []) (number_of (pos j)) n
 at_count c p m j n g e = by (leb j 4096) refl e
   where
-    by : (t : Bool) → leb j 4096 ≡ t → moved (st (RowCount c) p m) (cond t (Ok (Head c j)) (Err bad_head)) ≡ Ok n
+    by : (t : Bool) → leb j 4096 ≡ t → moved (st (RowCount c) p m) (counted (Head c) (cond t (Ok j) (Err bad_head))) ≡ Ok n
         → Next (letter 112 ∷ stray (codes "cnf") ∷ number_of (pos c) ∷ []) (number_of (pos j)) n
     by false is h = absurd (no_ok h)
     by true is h =

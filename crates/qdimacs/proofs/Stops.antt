@@ -1,5 +1,6 @@
 -- A refused text: the words before the place write what is left, and no well-formed formula goes on from there. Assumes nothing.
 use Rattle.std.proofs.Common.{◌≡◌, ℕ, List, [], ◌∷◌, ◌++◌, length, Some, None, Ok, Err, Option, Result, sym, refl, ap, ◌∙◌, subst}
+use Rattle.std.specs.Result.{result_err}
 use Rattle.std.proofs.lemmas.List.{append_assoc, map_push}
 use Rattle.std.proofs.lemmas.Bool.{le-leb, cond-true}
 use Rattle.refusal.specs.declared.Refusal.{Refusal}
@@ -8,7 +9,6 @@ use Rattle.words.specs.Text.{Lexeme, body, tokens_from}
 use Rattle.qdimacs.specs.declared.phase.Fault.{Fault}
 use Rattle.qdimacs.specs.Reading.{State, Outcome, nothing, step, lacks, stopped, run, reading, at_place}
 use Rattle.qdimacs.specs.Refused.{bare, place_of, GoesOn, Stops, Stopped}
-use Rattle.qdimacs.specs.View.{refusal_of}
 use Rattle.qdimacs.specs.Written.{written_by, Good, Sound}
 use Rattle.qdimacs.proofs.Accepts.{after, reads_formula}
 use Rattle.qdimacs.proofs.Leads.{next, start_good}
@@ -99,10 +99,10 @@ module _ (stop : ℕ) (all : List (ℕ × Lexeme)) (r : Refusal) where
           h
 
 -- a text that is refused, and is not too long
-pub stops : {X : Type 0} (text : List ℕ) (r : Result X Refusal) → refusal_of r ≡ (reading text).refusal → Stopped text r (reading text).left
+pub stops : {X : Type 0} (text : List ℕ) (r : Result X Refusal) → result_err r ≡ (reading text).refusal → Stopped text r (reading text).left
 stops text r why short e is =
     let reads : reading text ≡ run (length text) nothing (tokens_from text (body text)) = cond-true _ _ _ (le-leb (length text) 65536 short) in
-    let refused = ap (λ (o : Outcome). o.refusal) (sym reads) ∙ sym why ∙ ap refusal_of is in
+    let refused = ap (λ (o : Outcome). o.refusal) (sym reads) ∙ sym why ∙ ap result_err is in
     let at = run_stops (length text) (tokens_from text (body text)) e (tokens_from text (body text)) [] nothing refl start_good refl refl refused in
     subst (λ (o : Outcome). Stops text e o.left) (sym reads)
     (record { before = at.before; rest = at.rest; words = at.words; place = at.place; read = at.read; sound = at.sound; no_way = at.no_way })

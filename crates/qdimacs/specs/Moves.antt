@@ -33,15 +33,23 @@ foreign (letter b) = false
 foreign (number_of z) = false
 foreign (stray bs) = not (printable bs)
 
+-- a number of the head: from 0 to `most`
+abbrev pub head_number : ℕ → ℤ → Result ℕ Fault
+head_number most (pos n) = cond (nat_le n most) (Ok n) (Err bad_head)
+head_number most (negsuc n) = Err bad_head
+
+-- what such a number does
+abbrev pub counted : (ℕ → Move) → Result ℕ Fault → Result Move Fault
+counted does (Ok n) = Ok (does n)
+counted does (Err f) = Err f
+
 -- n: a number from 0 to 1,024
 abbrev pub variable_total : ℤ → Result Move Fault
-variable_total (pos n) = cond (nat_le n 1024) (Ok (VariableCount n)) (Err bad_head)
-variable_total (negsuc n) = Err bad_head
+variable_total z = counted VariableCount (head_number 1024 z)
 
 -- m: a number from 0 to 4,096
 abbrev pub row_total : ℕ → ℤ → Result Move Fault
-row_total n (pos m) = cond (nat_le m 4096) (Ok (Head n m)) (Err bad_head)
-row_total n (negsuc m) = Err bad_head
+row_total n z = counted (Head n) (head_number 4096 z)
 
 -- in a block: a variable, or 0 for the block's end
 abbrev pub block_number : Letter → ℤ → Result Move Fault

@@ -2,15 +2,16 @@
 ghost use Rattle.std.specs.Prelude.{◌≡◌, codes};
 ghost use Rattle.std.specs.Str.{bytes_eq};
 ghost use Rattle.words.specs.Said.{said};
-ghost use Rattle.qdimacs.specs.Moves.{block_number, decide as decided, row_number, row_total, variable_total};
+ghost use Rattle.qdimacs.specs.Moves.{block_number, decide as decided, head_number, row_number};
+ghost use Rattle.qdimacs.specs.Reading.{at_place};
 
 use formula::letter::{Letter, Literal};
-use refusal::{Layer, Reason};
+use refusal::{Layer, Reason, Refusal};
 use words::token::{Token, is_printable};
 
-pub const MOST_VARIABLES: i32 = 1024;
+pub const MOST_VARIABLES: u32 = 1024;
 
-pub const MOST_ROWS: i32 = 4096;
+pub const MOST_ROWS: u32 = 4096;
 
 // What is due.
 #[derive(Clone, Copy)]
@@ -54,37 +55,57 @@ pub struct Fault {
     pub layer: Layer,
 }
 
+const FOREIGN_BYTE: Fault = Fault {
+    reason: Reason::ForeignByte,
+    layer: Layer::Word,
+};
+
+pub const MISPLACED: Fault = Fault {
+    reason: Reason::Misplaced,
+    layer: Layer::Word,
+};
+
+const NOT_A_NUMBER: Fault = Fault {
+    reason: Reason::NotANumber,
+    layer: Layer::Word,
+};
+
+const BAD_HEAD: Fault = Fault {
+    reason: Reason::HeadOutOfRange,
+    layer: Layer::Head,
+};
+
+const BAD_VARIABLE: Fault = Fault {
+    reason: Reason::VariableOutOfRange,
+    layer: Layer::Block,
+};
+
+impl Fault {
+    // The refusal of it at this place.
+    pub fn at(self, place: usize) -> Refusal
+        ensures { result ≡ at_place self place }
+    {
+        Refusal {
+            reason: self.reason,
+            layer: self.layer,
+            place,
+        }
+    }
+}
+
 fn is_format(word: &[u8]) -> bool
     ensures { result ≡ bytes_eq word.now (codes "cnf") }
 {
     word == b"cnf".as_slice()
 }
 
-// n: a number from 0 to 1,024.
-fn variable_total(value: i32) -> Result<Move, Fault>
-    ensures { result ≡ variable_total value }
+// A number of the head: from 0 to `most`.
+fn head_number(value: i32, most: u32) -> Result<u32, Fault>
+    ensures { result ≡ head_number most value }
 {
-    if 0 <= value && value <= MOST_VARIABLES {
-        Ok(Move::Variables(value as u32))
-    } else {
-        Err(Fault {
-            reason: Reason::HeadOutOfRange,
-            layer: Layer::Head,
-        })
-    }
-}
-
-// m: a number from 0 to 4,096.
-fn row_total(variables: u32, value: i32) -> Result<Move, Fault>
-    ensures { result ≡ row_total variables value }
-{
-    if 0 <= value && value <= MOST_ROWS {
-        Ok(Move::Head(variables, value as u32))
-    } else {
-        Err(Fault {
-            reason: Reason::HeadOutOfRange,
-            layer: Layer::Head,
-        })
+    match u32::try_from(value) {
+        Ok(number) if number <= most => Ok(number),
+        _ => Err(BAD_HEAD),
     }
 }
 
@@ -92,15 +113,10 @@ fn row_total(variables: u32, value: i32) -> Result<Move, Fault>
 fn block_number(letter: Letter, value: i32) -> Result<Move, Fault>
     ensures { result ≡ block_number letter value }
 {
-    if value == 0 {
-        Ok(Move::EndBlock(letter))
-    } else if value > 0 {
-        Ok(Move::Bind(value as u32))
-    } else {
-        Err(Fault {
-            reason: Reason::VariableOutOfRange,
-            layer: Layer::Block,
-        })
+    match u32::try_from(value) {
+        Ok(0) => Ok(Move::EndBlock(letter)),
+        Ok(variable) => Ok(Move::Bind(variable)),
+        Err(_) => Err(BAD_VARIABLE),
     }
 }
 
@@ -118,25 +134,23 @@ fn row_number(value: i32) -> Move
     }
 }
 
-pub const MISPLACED: Fault = Fault {
-    reason: Reason::Misplaced,
-    layer: Layer::Word,
-};
-
 // What the word does where this is due, or why it is refused.
 pub fn decide(phase: Phase, token: Token<'_>) -> Result<Move, Fault>
     ensures { result ≡ decided phase (said token.entry) }
 {
     match (phase, token) {
-        (_, Token::Stray { word }) if !is_printable(word) => Err(Fault {
-            reason: Reason::ForeignByte,
-            layer: Layer::Word,
-        }),
+        (_, Token::Stray { word }) if !is_printable(word) => Err(FOREIGN_BYTE),
         (Phase::Start, Token::Letter { letter: b'p', .. }) => Ok(Move::Problem),
         (Phase::Format, Token::Stray { word }) if is_format(word) => Ok(Move::Format),
         (Phase::Start | Phase::Format, _) => Err(MISPLACED),
-        (Phase::Variables, Token::Number { value, .. }) => variable_total(value),
-        (Phase::RowCount(variables), Token::Number { value, .. }) => row_total(variables, value),
+        (Phase::Variables, Token::Number { value, .. }) => Ok(Move::Variables(head_number(
+            value,
+            MOST_VARIABLES,
+        )?)),
+        (Phase::RowCount(variables), Token::Number { value, .. }) => Ok(Move::Head(
+            variables,
+            head_number(value, MOST_ROWS)?,
+        )),
         (Phase::Block(letter), Token::Number { value, .. }) => block_number(letter, value),
         (Phase::Blocks | Phase::Rows | Phase::Row, Token::Number { value, .. }) => Ok(row_number(
             value,
@@ -150,9 +164,6 @@ pub fn decide(phase: Phase, token: Token<'_>) -> Result<Move, Fault>
                 ..
             },
         ) => Err(MISPLACED),
-        (_, Token::Letter { .. } | Token::Stray { .. }) => Err(Fault {
-            reason: Reason::NotANumber,
-            layer: Layer::Word,
-        }),
+        (_, Token::Letter { .. } | Token::Stray { .. }) => Err(NOT_A_NUMBER),
     }
 }

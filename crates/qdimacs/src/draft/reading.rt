@@ -1,9 +1,9 @@
 ghost use Rattle.std.specs.Prelude.{◌≡◌, OnErr};
+ghost use Rattle.std.specs.Result.{result_err};
 ghost use Rattle.formula.specs.Told.{told};
 ghost use Rattle.words.specs.Said.{said};
-ghost use Rattle.refusal.specs.declared.Layer.TheVariants.{Block, Row};
-ghost use Rattle.qdimacs.specs.Reading.{apply as applied, at_place, by_layer, lacks, nothing, reading, step as stepped};
-ghost use Rattle.qdimacs.specs.View.{refusal_of, state_of};
+ghost use Rattle.qdimacs.specs.Reading.{apply as applied, by_layer, in_phase, lacks, nothing, reading, step as stepped};
+ghost use Rattle.qdimacs.specs.View.{state_of};
 
 use super::Draft;
 use crate::phase::{Fault, MISPLACED, Move, Phase, decide};
@@ -16,22 +16,10 @@ use words::token::Token;
 
 pub const MOST_BYTES: usize = 65536;
 
-fn block_fault(reason: Reason) -> Fault
-    ensures { result ≡ by_layer Block reason }
+fn by_layer(layer: Layer, reason: Reason) -> Fault
+    ensures { result ≡ by_layer layer reason }
 {
-    Fault {
-        reason,
-        layer: Layer::Block,
-    }
-}
-
-fn row_fault(reason: Reason) -> Fault
-    ensures { result ≡ by_layer Row reason }
-{
-    Fault {
-        reason,
-        layer: Layer::Row,
-    }
+    Fault { reason, layer }
 }
 
 const TOO_LONG: Refusal = Refusal {
@@ -39,16 +27,6 @@ const TOO_LONG: Refusal = Refusal {
     layer: Layer::Text,
     place: 0,
 };
-
-fn refused(fault: Fault, place: usize) -> Refusal
-    ensures { result ≡ at_place fault place }
-{
-    Refusal {
-        reason: fault.reason,
-        layer: fault.layer,
-        place,
-    }
-}
 
 impl Draft {
     // Nothing is read yet.
@@ -82,96 +60,56 @@ impl Draft {
         self.matrix.restart(0);
     }
 
-    // A block's letter.
-    fn open(&mut self, letter: Letter) -> Result<(), Fault>
-        ensures value { told result (state_of self.new) ≡ applied (state_of self.old) (Move.Open letter) }
-        ensures same { OnErr result (state_of self.new ≡ state_of self.old) }
-    {
-        if let Some(reason) = self.prefix.no_block(letter) {
-            return Err(block_fault(reason));
-        }
-        self.phase = Phase::Block(letter);
-        Ok(())
-    }
-
-    // A variable of the block that is being read.
-    fn bind(&mut self, variable: u32) -> Result<(), Fault>
-        ensures value { told result (state_of self.new) ≡ applied (state_of self.old) (Move.Bind variable) }
-        ensures same { OnErr result (state_of self.new ≡ state_of self.old) }
-    {
-        match self.prefix.bind(variable) {
-            Ok(()) => Ok(()),
-            Err(reason) => Err(block_fault(reason)),
-        }
-    }
-
-    // The end of the block that is being read.
-    fn end_block(&mut self, letter: Letter) -> Result<(), Fault>
-        ensures value { told result (state_of self.new) ≡ applied (state_of self.old) (Move.EndBlock letter) }
-        ensures same { OnErr result (state_of self.new ≡ state_of self.old) }
-    {
-        match self.prefix.end_block(letter) {
-            Ok(()) => {
-                self.phase = Phase::Blocks;
-                Ok(())
-            }
-            Err(reason) => Err(block_fault(reason)),
-        }
-    }
-
     // A literal of the row that is being read, or of a new one.
     fn add(&mut self, literal: Literal) -> Result<(), Fault>
-        ensures value { told result (state_of self.new) ≡ applied (state_of self.old) (Move.Add literal) }
+        ensures value { told result (in_phase Phase.Row (state_of self.new)) ≡ applied (state_of self.old) (Move.Add literal) }
         ensures same { OnErr result (state_of self.new ≡ state_of self.old) }
     {
+        let in_row = |reason| by_layer(Layer::Row, reason);
         if self.matrix.is_complete() {
-            return Err(row_fault(Reason::WrongRowCount));
+            return Err(in_row(Reason::WrongRowCount));
         }
-        if let Some(reason) = self.prefix.unnameable(literal.variable) {
-            return Err(row_fault(reason));
-        }
-        match self.matrix.add(literal) {
-            Ok(()) => {
-                self.phase = Phase::Row;
-                Ok(())
-            }
-            Err(reason) => Err(row_fault(reason)),
-        }
+        self.prefix.nameable(literal.variable).map_err(in_row)?;
+        self.matrix.add(literal).map_err(in_row)
     }
 
-    // The end of a row.
-    fn end_row(&mut self) -> Result<(), Fault>
-        ensures value { told result (state_of self.new) ≡ applied (state_of self.old) Move.EndRow }
-        ensures same { OnErr result (state_of self.new ≡ state_of self.old) }
-    {
-        match self.matrix.end_row() {
-            Ok(()) => {
-                self.phase = Phase::Rows;
-                Ok(())
-            }
-            Err(reason) => Err(row_fault(reason)),
-        }
-    }
-
+    // Does the move, and goes into the phase that it leads to; or refuses, and alters nothing.
     fn apply(&mut self, step: Move) -> Result<(), Fault>
         ensures value { told result (state_of self.new) ≡ applied (state_of self.old) step }
         ensures same { OnErr result (state_of self.new ≡ state_of self.old) }
     {
-        match step {
-            Move::Problem => self.phase = Phase::Format,
-            Move::Format => self.phase = Phase::Variables,
-            Move::Variables(n) => self.phase = Phase::RowCount(n),
+        let in_block = |reason| by_layer(Layer::Block, reason);
+        let in_row = |reason| by_layer(Layer::Row, reason);
+        self.phase = match step {
+            Move::Problem => Phase::Format,
+            Move::Format => Phase::Variables,
+            Move::Variables(n) => Phase::RowCount(n),
             Move::Head(n, m) => {
-                self.phase = Phase::Blocks;
                 self.prefix.restart(n as usize);
                 self.matrix.restart(m as usize);
+                Phase::Blocks
             }
-            Move::Open(letter) => return self.open(letter),
-            Move::Bind(variable) => return self.bind(variable),
-            Move::EndBlock(letter) => return self.end_block(letter),
-            Move::Add(literal) => return self.add(literal),
-            Move::EndRow => return self.end_row(),
-        }
+            Move::Open(letter) => {
+                self.prefix.may_open(letter).map_err(in_block)?;
+                Phase::Block(letter)
+            }
+            Move::Bind(variable) => {
+                self.prefix.bind(variable).map_err(in_block)?;
+                self.phase
+            }
+            Move::EndBlock(letter) => {
+                self.prefix.end_block(letter).map_err(in_block)?;
+                Phase::Blocks
+            }
+            Move::Add(literal) => {
+                self.add(literal)?;
+                Phase::Row
+            }
+            Move::EndRow => {
+                self.matrix.end_row().map_err(in_row)?;
+                Phase::Rows
+            }
+        };
         Ok(())
     }
 
@@ -184,26 +122,21 @@ impl Draft {
         self.apply(step)
     }
 
-    // What is wrong where the text ends.
-    fn lack(&self) -> Option<Fault>
-        ensures { result ≡ lacks (state_of self.now) }
+    // Whether the text may end here, and what is wrong where it may not.
+    fn ended(&self) -> Result<(), Fault>
+        ensures { result_err result ≡ lacks (state_of self.now) }
     {
         match self.phase {
-            Phase::Blocks | Phase::Rows => {
-                if self.matrix.is_complete() {
-                    None
-                } else {
-                    Some(row_fault(Reason::WrongRowCount))
-                }
-            }
-            _ => Some(MISPLACED),
+            Phase::Blocks | Phase::Rows if self.matrix.is_complete() => Ok(()),
+            Phase::Blocks | Phase::Rows => Err(by_layer(Layer::Row, Reason::WrongRowCount)),
+            _ => Err(MISPLACED),
         }
     }
 
     // Reads a text, from nothing. A refused text leaves what was complete before.
     pub fn read(&mut self, text: &[u8]) -> Result<(), Refusal>
         ensures left { state_of self.new ≡ (reading text.now).left }
-        ensures refusal { refusal_of result ≡ (reading text.now).refusal }
+        ensures refusal { result_err result ≡ (reading text.now).refusal }
     {
         self.clear();
         if text.len() > MOST_BYTES {
@@ -211,13 +144,8 @@ impl Draft {
         }
         let mut words = Words::after_comments(text);
         while let Some((place, token)) = words.next() {
-            if let Err(fault) = self.take(token) {
-                return Err(refused(fault, place));
-            }
+            self.take(token).map_err(|fault| fault.at(place))?;
         }
-        match self.lack() {
-            Some(fault) => Err(refused(fault, text.len())),
-            None => Ok(()),
-        }
+        self.ended().map_err(|fault| fault.at(text.len()))
     }
 }

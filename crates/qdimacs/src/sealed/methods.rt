@@ -1,5 +1,6 @@
 ghost use Rattle.std.specs.Prelude.{◌≡◌, true, false, length, is_some, IfSome, is_ok};
 ghost use Rattle.std.specs.Option.{option_map};
+ghost use Rattle.std.specs.Result.{result_err};
 ghost use Rattle.std.specs.List.{slice_get};
 ghost use Rattle.formula.specs.Formula.{WellFormed};
 ghost use Rattle.formula.specs.Matrix.{all_literals};
@@ -8,7 +9,6 @@ ghost use Rattle.qdimacs.specs.Grammar.{Exact};
 ghost use Rattle.qdimacs.specs.Refused.{Stopped};
 ghost use Rattle.qdimacs.specs.Reading.{left_formula, nothing, reading};
 ghost use Rattle.qdimacs.specs.Kept.{formula_of, sealed_formula};
-ghost use Rattle.qdimacs.specs.View.{refusal_of};
 
 use super::{Formula, Sealed};
 use crate::draft::Draft;
@@ -33,7 +33,7 @@ impl Formula {
         ensures exact { Exact text.now result (formula_of self.new) }
         ensures stops { Stopped text.now result (reading text.now).left }
         ensures left { formula_of self.new ≡ left_formula (reading text.now).left }
-        ensures refusal { refusal_of result ≡ (reading text.now).refusal }
+        ensures refusal { result_err result ≡ (reading text.now).refusal }
         ensures seal { self.new.sealed ≡ is_ok result }
     {
         self.sealed = false;
