@@ -1,6 +1,7 @@
 -- Leaves: lists of literals, and the records that they are as marks.
 use Rattle.std.specs.Prelude.{ℕ, Bool, true, false, ◌&&◌, List, [], ◌∷◌, nat_lt}
 use Rattle.formula.specs.declared.letter.Literal.{Literal}
+use Rattle.game.specs.declared.record.Entry.{Entry}
 use Rattle.game.specs.Records.{Side, Mark, Plus, Minus, Star, Record}
 use Rattle.game.specs.Plays.{meets}
 
@@ -28,10 +29,14 @@ sign_from Plus = true
 sign_from Minus = false
 sign_from Star = true
 
+-- a literal as a mark
+abbrev pub entry_from : Literal → Entry
+entry_from l = record { variable = l.variable; mark = mark_from l.positive }
+
 -- literals as marks: the record of a leaf step
 unfoldable pub marked : List Literal → Record
 marked [] = []
-marked (l ∷ ls) = record { variable = l.variable; mark = mark_from l.positive } ∷ marked ls
+marked (l ∷ ls) = entry_from l ∷ marked ls
 
 -- marks as literals
 unfoldable pub literals : Record → List Literal

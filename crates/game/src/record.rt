@@ -1,4 +1,8 @@
 // What a step of a derivation says, as it is kept: the marks of its record, and how the step came.
+ghost use Rattle.std.specs.Prelude.{◌≡◌};
+ghost use Rattle.game.specs.Leaves.{entry_from};
+
+use formula::letter::Literal;
 
 // The mark of a variable in a record. Plus and minus are the plain marks: the variable stands there with that sign. Star says that
 // the sign depends on the play; only own variables are marked so.
@@ -14,6 +18,22 @@ pub enum Mark {
 pub struct Entry {
     pub variable: u32,
     pub mark: Mark,
+}
+
+// A literal as a mark: plus for a variable that stands there plainly, minus for one that is denied.
+impl From<Literal> for Entry {
+    ghost from_gives = { λ literal entry. entry ≡ entry_from literal };
+
+    fn from(literal: Literal) -> Entry {
+        Entry {
+            variable: literal.variable,
+            mark: if literal.positive {
+                Mark::Plus
+            } else {
+                Mark::Minus
+            },
+        }
+    }
 }
 
 // How a step came: as a leaf, by resolving two earlier steps on a pivot, or by reducing an earlier one. Steps are numbered from 1.

@@ -1,14 +1,9 @@
 -- The lines that programs print, byte for byte, without the line end.
 use Rattle.std.specs.Prelude.{ℕ, List, ◌++◌, length, Some, None, codes, decimal}
-use Rattle.refusal.specs.declared.Refusal.{Refusal}
-use Rattle.refusal.specs.Numbers.{number}
+use Rattle.refusal.specs.Lines.{refusal_line}
 use Rattle.formula.specs.Formula.{Formula}
 use Rattle.formula.specs.Matrix.{all_literals}
 use Rattle.qdimacs.specs.Reading.{reading, left_formula}
-
--- `refused`, the number of the reason, and the place
-abbrev pub refusal_line : Refusal → List ℕ
-refusal_line r = codes "refused " ++ (decimal (number r.reason) ++ (codes " " ++ decimal r.place))
 
 -- `read`, and how many variables, blocks, rows and literals the formula has
 abbrev pub read_line : Formula → List ℕ

@@ -3,24 +3,14 @@
 
 ghost use Rattle.std.specs.Prelude.{◌≡◌, IfOk, string_bytes};
 ghost use Rattle.qdimacs.specs.Kept.{sealed_formula};
-ghost use Rattle.report.specs.Lines.{formula_line, read_line, refusal_line};
+ghost use Rattle.report.specs.Lines.{formula_line, read_line};
 
 use qdimacs::{Formula, Sealed};
-use refusal::Refusal;
 use std::alloc::{AllocError, Global};
 use std::{fs, io};
 
 // The file that a formula is read from, in the current folder.
 const FORMULA_FILE: &str = "formula.qdm";
-
-// `refused`, the number of the reason, and the place.
-pub fn refusal_line(heap: Global, refusal: &Refusal) -> Result<String, AllocError>
-    ensures { IfOk result (λ s. string_bytes s ≡ refusal_line refusal.now) }
-{
-    let number = refusal.reason.number();
-    let place = refusal.place;
-    format!(in heap; "refused {number} {place}")
-}
 
 // `read`, and how many variables, blocks, rows and literals the formula has.
 fn accepted_line(heap: Global, formula: &Sealed) -> Result<String, AllocError>
@@ -39,7 +29,7 @@ pub fn formula_line(heap: Global, text: &[u8]) -> Result<String, AllocError>
 {
     let mut formula = Formula::new();
     if let Err(refusal) = formula.read(text) {
-        return refusal_line(heap, &refusal);
+        return refusal.to_string(heap);
     }
     match formula.sealed() {
         Some(sealed) => accepted_line(heap, &sealed),
