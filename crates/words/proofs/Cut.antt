@@ -1,86 +1,161 @@
--- The reader's loops, one byte at a time: a gap between words, a word, and the first word of what is left.
-use Rattle.std.proofs.Common.{◌≡◌, ℕ, ◌+◌, ◌-◌, ◌<◌, ◌≤◌, Bool, true, false, List, [], ◌∷◌, ◌++◌, map, length, get_or, take, drop, sym, ap, ◌∙◌, arith}
-use Rattle.std.proofs.lemmas.List.{at_drop_more, at_drop_all, take_more, length-drop, length-take-le, get_or-drop, append_assoc, append-nil}
+-- How a text is cut: into what stands in front of a word, the word, and what is left behind it.
+use Rattle.std.proofs.Common.{◌≡◌, ℕ, ◌+◌, ◌-◌, ◌<◌, ◌≤◌, Bool, true, false, cond, not, ◌==◌, List, [], ◌∷◌, map, length, take, drop, sym, ap, subst, refl, ◌∙◌, add-zero, arith}
 use Rattle.std.proofs.lemmas.Bool.{cond-true, cond-false}
-use Rattle.words.specs.Text.{separator, front, words, words_from, lexeme, placed, tokens_from}
+use Rattle.std.proofs.lemmas.List.{drop-drop, length-drop, take_rest}
+use Rattle.std.proofs.lemmas.List.Folds.{length-prefix_len}
+use Rattle.std.proofs.lemmas.List.Sums.{prefix_len-le-length}
+use Rattle.std.specs.List.{prefix_len, take_while}
+use Rattle.words.specs.Text.{separator, front, from_word, from_line_end, Word, words, words_from, lexeme, placed, tokens_from}
 
-module _ (text : List ℕ) (i : ℕ) (within : i < length text) where
-  -- a separator ends a word, and no word begins there
-  pub past_separator : (inside : Bool) → separator (get_or text i 0) ≡ true → words inside i (drop i text) ≡ words_from text (i + 1)
-  past_separator inside h = at_drop_more (words inside i) text i 0 within ∙ cond-true _ _ _ h
+-- how many bytes stand in front of the first word, of the first separator, and of the first line's end
+abbrev pub gap : List ℕ → ℕ
+gap bs = prefix_len separator bs
 
-  pub no_front : separator (get_or text i 0) ≡ true → front (drop i text) ≡ []
-  no_front h = at_drop_more front text i 0 within ∙ cond-true _ _ _ h
+abbrev pub word_len : List ℕ → ℕ
+word_len bs = prefix_len (λ b. not (separator b)) bs
 
-  -- any other byte goes on with a word, or begins one
-  pub word_goes_on : separator (get_or text i 0) ≡ false → words true i (drop i text) ≡ words true (i + 1) (drop (i + 1) text)
-  word_goes_on h = at_drop_more (words true i) text i 0 within ∙ cond-false _ _ _ h
+abbrev pub line_len : List ℕ → ℕ
+line_len bs = prefix_len (λ b. not (b == 10)) bs
 
-  pub front_more : separator (get_or text i 0) ≡ false → front (drop i text) ≡ get_or text i 0 ∷ front (drop (i + 1) text)
-  front_more h = at_drop_more front text i 0 within ∙ cond-false _ _ _ h
+-- the cuts stand there
+pub behind_gap : (bs : List ℕ) → drop (gap bs) bs ≡ from_word bs
+behind_gap [] = refl
+behind_gap (b ∷ bs) = by (behind_gap bs) (separator b)
+  where
+    by : drop (gap bs) bs ≡ from_word bs → (s : Bool) → drop (cond s (1 + gap bs) 0) (b ∷ bs) ≡ cond s (from_word bs) (b ∷ bs)
+    by more true = grind arith
+    by more false = refl
 
-  pub word_begins : separator (get_or text i 0) ≡ false → words_from text i ≡ record { at = i; bytes = front (drop i text) } ∷ words true i (drop i text)
-  word_begins h =
-      at_drop_more (words false i) text i 0 within ∙ cond-false _ _ _ h
-      ∙ ap (λ l. record { at = i; bytes = l } ∷ words true (i + 1) (drop (i + 1) text)) (sym (front_more h))
-      ∙ ap (λ l. record { at = i; bytes = front (drop i text) } ∷ l) (sym (word_goes_on h))
+pub up_to_separator : (bs : List ℕ) → take (word_len bs) bs ≡ front bs
+up_to_separator [] = refl
+up_to_separator (b ∷ bs) = by (up_to_separator bs) (separator b)
+  where
+    by : take (word_len bs) bs ≡ front bs → (s : Bool) → take (cond (not s) (1 + word_len bs) 0) (b ∷ bs) ≡ cond s [] (b ∷ front bs)
+    by more true = refl
+    by more false = grind arith
 
--- the bytes from `at` up to i belong to one word
-pub record InWord (text : List ℕ) (at i : ℕ) : Type 0 where
-  pub from : at ≤ i
-  pub within : i ≤ length text
-  pub same : words true i (drop i text) ≡ words true at (drop at text)
-  pub cut : front (drop at text) ≡ take (i - at) (drop at text) ++ front (drop i text)
+pub behind_line : (bs : List ℕ) → drop (line_len bs) bs ≡ from_line_end bs
+behind_line [] = refl
+behind_line (b ∷ bs) = by (behind_line bs) (b == 10)
+  where
+    by : drop (line_len bs) bs ≡ from_line_end bs → (s : Bool) → drop (cond (not s) (1 + line_len bs) 0) (b ∷ bs) ≡ cond s (b ∷ bs) (from_line_end bs)
+    by more true = refl
+    by more false = grind arith
 
-module _ (text : List ℕ) (at i : ℕ) (so : InWord text at i) where
-  pub one_more : i < length text → separator (get_or text i 0) ≡ false → InWord text at (i + 1)
-  one_more h no_sep = record {
-    from = omega (arith, so.from);
-    within = omega arith;
-    same = sym (word_goes_on text i h no_sep) ∙ so.same;
-    cut = so.cut ∙ ap (λ l. take (i - at) (drop at text) ++ l) (front_more text i h no_sep)
-        ∙ sym (append_assoc (take (i - at) (drop at text)) (get_or text i 0 ∷ []) (front (drop (i + 1) text)))
-        ∙ ap (λ l. l ++ front (drop (i + 1) text)) (sym longer);
-  }
+-- the same as the code counts those bytes
+module _ (bs : List ℕ) (n : ℕ) where
+  counted : (test : ℕ → Bool) → n ≡ length (take_while test bs) → n ≡ prefix_len test bs
+  counted test is = is ∙ length-prefix_len test bs
+
+  pub from_word_cut : n ≡ length (take_while separator bs) → take (length bs - n) (drop n bs) ≡ from_word bs
+  from_word_cut is = take_rest bs n ∙ ap (λ k. drop k bs) (counted separator is) ∙ behind_gap bs
+
+  pub front_cut : n ≡ length (take_while (λ b. not (separator b)) bs) → take n bs ≡ front bs
+  front_cut is = ap (λ k. take k bs) (counted (λ b. not (separator b)) is) ∙ up_to_separator bs
+
+  pub line_end_cut : n ≡ length (take_while (λ b. not (b == 10)) bs) → take (length bs - n) (drop n bs) ≡ from_line_end bs
+  line_end_cut is = take_rest bs n ∙ ap (λ k. drop k bs) (counted (λ b. not (b == 10)) is) ∙ behind_line bs
+
+pub gap_short : (bs : List ℕ) → gap bs ≤ length bs
+gap_short bs = prefix_len-le-length separator bs
+
+pub length-from_word : (bs : List ℕ) → length (from_word bs) ≡ length bs - gap bs
+length-from_word bs = ap length (sym (behind_gap bs)) ∙ length-drop (gap bs) bs
+
+pub length_front : (bs : List ℕ) → length (front bs) ≡ word_len bs
+length_front bs = ap length (sym (up_to_separator bs)) ∙ length-prefix_len (λ b. not (separator b)) bs
+
+pub front_short : (bs : List ℕ) → length (front bs) ≤ length bs
+front_short bs = omega (arith, length_front bs, prefix_len-le-length (λ b. not (separator b)) bs)
+
+pub line_short : (bs : List ℕ) → line_len bs ≤ length bs
+line_short bs = prefix_len-le-length (λ b. not (b == 10)) bs
+
+pub length-from_line_end : (bs : List ℕ) → length (from_line_end bs) ≡ length bs - line_len bs
+length-from_line_end bs = ap length (sym (behind_line bs)) ∙ length-drop (line_len bs) bs
+
+pub from_word_twice : (bs : List ℕ) → from_word (from_word bs) ≡ from_word bs
+from_word_twice [] = refl
+from_word_twice (b ∷ bs) = by (from_word_twice bs) (separator b) refl
+  where
+    by : from_word (from_word bs) ≡ from_word bs → (s : Bool) → separator b ≡ s → from_word (cond s (from_word bs) (b ∷ bs)) ≡ cond s (from_word bs) (b ∷ bs)
+    by more true e = more
+    by more false e = cond-false _ _ _ e
+
+-- what passes over separators, and counts offsets on, passes over the gap
+module _ {X : Type 0} (F : ℕ → List ℕ → X) (past : (i b : ℕ) (bs : List ℕ) → separator b ≡ true → F i (b ∷ bs) ≡ F (i + 1) bs) where
+  pub past_gap : (bs : List ℕ) (i : ℕ) → F i bs ≡ F (i + gap bs) (from_word bs)
+  past_gap [] i = ap (λ n. F n []) (sym (add-zero i))
+  past_gap (b ∷ bs) i = by (past_gap bs (i + 1)) (separator b) refl
     where
-      back : at + (i - at) ≡ i
-      back = omega (arith, so.from)
+      by : F (i + 1) bs ≡ F (i + 1 + gap bs) (from_word bs) → (s : Bool) → separator b ≡ s → F i (b ∷ bs) ≡ F (i + cond s (1 + gap bs) 0) (cond s (from_word bs) (b ∷ bs))
+      by more true e = past i b bs e ∙ more ∙ ap (λ n. F n (from_word bs)) (omega arith)
+      by more false e = ap (λ n. F n (b ∷ bs)) (omega arith)
 
-      ahead : i + 1 - at ≡ i - at + 1
-      ahead = omega (arith, so.from)
+pub no_word : (bs : List ℕ) → length (front (from_word bs)) ≡ 0 → from_word bs ≡ []
+no_word [] none = refl
+no_word (b ∷ bs) none = by (no_word bs) (separator b) refl none
+  where
+    by : (length (front (from_word bs)) ≡ 0 → from_word bs ≡ []) → (s : Bool) → separator b ≡ s
+        → length (front (cond s (from_word bs) (b ∷ bs))) ≡ 0 → cond s (from_word bs) (b ∷ bs) ≡ []
+    by more true e none = more none
+    by more false e none = absurd (omega (arith, none, ap length (cond-false (separator b) [] (b ∷ front bs) e)))
 
-      longer : take (i + 1 - at) (drop at text) ≡ take (i - at) (drop at text) ++ get_or text i 0 ∷ []
-      longer = ap (λ n. take n (drop at text)) ahead ∙ take_more (drop at text) (i - at) 0 (simp length-drop (omega arith))
-          ∙ ap (λ b. take (i - at) (drop at text) ++ b ∷ []) (get_or-drop at text (i - at) 0 ∙ ap (λ n. get_or text n 0) back)
+-- a word goes on to its end, and the next ones begin behind it
+pub words_behind_front : (bs : List ℕ) (i : ℕ) → words true i bs ≡ words false (i + length (front bs)) (drop (length (front bs)) bs)
+words_behind_front [] i = refl
+words_behind_front (b ∷ bs) i = by (words_behind_front bs (i + 1)) (separator b) refl
+  where
+    by : words true (i + 1) bs ≡ words false (i + 1 + length (front bs)) (drop (length (front bs)) bs) → (s : Bool) → separator b ≡ s
+        → words true i (b ∷ bs) ≡ words false (i + length (cond s [] (b ∷ front bs))) (drop (length (cond s [] (b ∷ front bs))) (b ∷ bs))
+    by more true e = cond-true _ _ _ e ∙ sym (cond-true _ _ _ e) ∙ ap (λ n. words false n (b ∷ bs)) (omega arith)
+    by more false e = cond-false _ _ _ e ∙ more ∙ ap (λ n. words false n (drop (length (front bs)) bs)) (omega arith)
 
-  -- what `word_end` says where it stops, with nothing of the word left
-  pub ended : front (drop i text) ≡ [] → words_from text i ≡ words true i (drop i text)
-      → (words_from text i ≡ words true at (drop at text)) × (front (drop at text) ≡ take (i - at) (drop at text))
-  ended none again = (again ∙ so.same, so.cut ∙ ap (λ l. take (i - at) (drop at text) ++ l) none ∙ append-nil (take (i - at) (drop at text)))
+pub first_word : (bs : List ℕ) (i : ℕ) → 0 < length (front bs)
+    → words false i bs ≡ record { at = i; bytes = front bs } ∷ words false (i + length (front bs)) (drop (length (front bs)) bs)
+first_word [] i some = absurd (omega arith)
+first_word (b ∷ bs) i some = by (words_behind_front (b ∷ bs) i) (separator b) refl some
+  where
+    behind : List Word
+    behind = words false (i + length (front (b ∷ bs))) (drop (length (front (b ∷ bs))) (b ∷ bs))
 
-  pub ended_by_separator : i < length text → separator (get_or text i 0) ≡ true
-      → (words_from text i ≡ words true at (drop at text)) × (front (drop at text) ≡ take (i - at) (drop at text))
-  ended_by_separator h sep = ended (no_front text i h sep) (past_separator text i h false sep ∙ sym (past_separator text i h true sep))
+    by : words true i (b ∷ bs) ≡ behind → (s : Bool) → separator b ≡ s → 0 < length (cond s [] (b ∷ front bs))
+        → cond s (words false (i + 1) bs) (record { at = i; bytes = b ∷ front bs } ∷ words true (i + 1) bs) ≡ record { at = i; bytes = cond s [] (b ∷ front bs) } ∷ behind
+    by more true e some = absurd (omega arith)
+    by more false e some = ap (λ ws. record { at = i; bytes = b ∷ front bs } ∷ ws) (sym (cond-false _ _ _ e) ∙ more)
 
-  pub ended_with_text : length text ≤ i → (words_from text i ≡ words true at (drop at text)) × (front (drop at text) ≡ take (i - at) (drop at text))
-  ended_with_text h = ended (at_drop_all front text i h) (at_drop_all (words false i) text i h ∙ sym (at_drop_all (words true i) text i h))
+-- `rest` is the text from its first word at offset `at` or later on
+pub record RestFrom (text : List ℕ) (at : ℕ) (rest : List ℕ) : Type 0 where
+  pub short : length rest ≤ length text
+  pub stands : drop (length text - length rest) text ≡ rest
+  pub words : words_from text at ≡ words false (length text - length rest) rest
+  pub none : length (front rest) ≡ 0 → rest ≡ []
 
--- a word that `word_end` has cut is as long as it says
-pub span_ends : (text : List ℕ) (start end : ℕ) → start ≤ end → end ≤ length text → front (drop start text) ≡ take (end - start) (drop start text)
-    → end ≡ start + length (front (drop start text))
-span_ends text start end low high bytes =
-    omega (arith, ap length bytes, length-take-le (end - start) (drop start text) (simp length-drop (omega arith)))
+pub rest_from : (text : List ℕ) (at : ℕ) (rest : List ℕ) → at ≤ length text → rest ≡ from_word (take (length text - at) (drop at text)) → RestFrom text at rest
+rest_from text at rest within is = record {
+  short = omega (arith, ap length same, length-from_word ahead, length-drop at text);
+  stands = ap (λ n. drop n text) start ∙ sym (drop-drop (gap ahead) at text) ∙ behind_gap ahead ∙ sym same;
+  words = past_gap (words false) (λ i b bs e. cond-true _ _ _ e) ahead at ∙ ap (λ n. words false n (from_word ahead)) (sym start) ∙ ap (words false (length text - length rest)) (sym same);
+  none = subst (λ l. length (front l) ≡ 0 → l ≡ []) (sym same) (no_word ahead);
+}
+  where
+    ahead : List ℕ
+    ahead = drop at text
 
--- at the text's end there is no word
-pub no_token : (text : List ℕ) (at start : ℕ) → length text ≤ start → words_from text start ≡ words_from text at → tokens_from text at ≡ []
-no_token text at start h same = ap (map placed) (sym same ∙ at_drop_all (words false start) text start h)
+    same : rest ≡ from_word ahead
+    same = is ∙ ap from_word (take_rest text at)
 
--- the word from `start` to `end` is the first one, and the rest follows it
-pub one_token : (text : List ℕ) (at start end : ℕ) → start < length text → separator (get_or text start 0) ≡ false
-    → words_from text start ≡ words_from text at → words_from text end ≡ words true start (drop start text)
-    → front (drop start text) ≡ take (end - start) (drop start text)
-    → tokens_from text at ≡ (start, lexeme (take (end - start) (drop start text))) ∷ tokens_from text end
-one_token text at start end h begins same rest bytes =
-    ap (map placed) (sym same ∙ word_begins text start h begins)
-    ∙ ap (λ l. (start, lexeme l) ∷ map placed (words true start (drop start text))) bytes
-    ∙ ap (λ ws. (start, lexeme (take (end - start) (drop start text))) ∷ map placed ws) (sym rest)
+    start : length text - length rest ≡ at + gap ahead
+    start = omega (arith, ap length same, length-from_word ahead, gap_short ahead, length-drop at text)
+
+module _ (text : List ℕ) (at : ℕ) (rest word : List ℕ) (so : RestFrom text at rest) (is : word ≡ front rest) where
+  pub no_token : length word ≡ 0 → tokens_from text at ≡ []
+  no_token none = ap (map placed) (so.words ∙ ap (words false (length text - length rest)) (so.none (sym (ap length is) ∙ none)))
+
+  pub one_token : 0 < length word → tokens_from text at ≡ (length text - length rest, lexeme word) ∷ tokens_from text (length text - length rest + length word)
+  one_token some = rw is (
+      ap (map placed) (so.words ∙ first_word rest (length text - length rest) (subst (λ w. 0 < length w) is some))
+      ∙ ap (λ l. (length text - length rest, lexeme (front rest)) ∷ map placed (words false (length text - length rest + length (front rest)) l)) behind)
+    where
+      behind : drop (length (front rest)) rest ≡ drop (length text - length rest + length (front rest)) text
+      behind = ap (drop (length (front rest))) (sym so.stands) ∙ drop-drop (length (front rest)) (length text - length rest) text

@@ -1,3 +1,4 @@
 mod Digits
+mod Comments
 mod Cut
 mod Parting

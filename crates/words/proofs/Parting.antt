@@ -1,49 +1,26 @@
 -- Why the words of a text are its parts between separators.
 -- Each fact is shown of `words inside i bs`, where bs is the text from offset i on, byte by byte.
-use Rattle.std.proofs.Common.{◌≡◌, ℕ, zero, suc, ◌+◌, ◌-◌, ◌<◌, ◌≤◌, Bool, true, false, cond, ◌⊎◌, List, [], ◌∷◌, length, get_or, take, drop, Some, None, sym, refl, ap, ◌∙◌, subst, inl, inr, ⊎_elim, add-one, arith}
-use Rattle.std.proofs.lemmas.List.{length-drop, get_or-drop, drop-drop}
-use Rattle.std.proofs.lemmas.Bool.{cases_lt}
+use Rattle.std.proofs.Common.{◌≡◌, ℕ, zero, suc, ◌+◌, ◌-◌, ◌<◌, ◌≤◌, Bool, true, false, cond, not, ◌⊎◌, List, [], ◌∷◌, length, get_or, take, drop, Some, sym, refl, ap, ◌∙◌, subst, inl, inr, ⊎_elim, add-one, arith}
+use Rattle.std.proofs.lemmas.List.{length-drop, get_or-drop, get_or-take, drop-drop}
+use Rattle.std.proofs.lemmas.Bool.{cases_lt, not-true, not-false, true≢false}
+use Rattle.std.proofs.lemmas.List.Sums.{prefix_len_passes, prefix_len_stops}
+use Rattle.words.proofs.Cut.{word_len, length_front, up_to_separator}
 use Rattle.std.specs.List.{slice_get}
 use Rattle.words.specs.Text.{separator, front, Word, words, words_from}
 use Rattle.words.specs.Laws.{past, Part, Covered, WordsAreParts}
 
 -- The front of a list: no separator stands in it, it begins the list, and a separator or the end follows it.
 front_solid : (l : List ℕ) (k : ℕ) → k < length (front l) → separator (get_or (front l) k 0) ≡ false
-front_solid [] k h = absurd (omega arith)
-front_solid (b ∷ bs) k h = go (front_solid bs) (separator b) refl k h
-  where
-    go : ((k : ℕ) → k < length (front bs) → separator (get_or (front bs) k 0) ≡ false)
-        → (s : Bool) → separator b ≡ s → (k : ℕ) → k < length (cond s [] (b ∷ front bs)) → separator (get_or (cond s [] (b ∷ front bs)) k 0) ≡ false
-    go more true e k h = absurd (omega arith)
-    go more false e zero h = e
-    go more false e (suc k) h = more k (omega arith)
+front_solid l k h =
+    let within : k < word_len l = omega (arith, length_front l) in
+    ap (λ w. separator (get_or w k 0)) (sym (up_to_separator l)) ∙ ap separator (get_or-take (word_len l) l k 0 within)
+    ∙ not-true _ (prefix_len_passes (λ b. not (separator b)) l k 0 within)
 
 front_stands : (l : List ℕ) → take (length (front l)) l ≡ front l
-front_stands [] = refl
-front_stands (b ∷ bs) = go (front_stands bs) (separator b)
-  where
-    go : take (length (front bs)) bs ≡ front bs → (s : Bool) → take (length (cond s [] (b ∷ front bs))) (b ∷ bs) ≡ cond s [] (b ∷ front bs)
-    go more true = refl
-    go more false = ap (λ l. b ∷ l) more
+front_stands l = ap (λ k. take k l) (length_front l) ∙ up_to_separator l
 
 front_stops : (l : List ℕ) → length (front l) < length l → separator (get_or l (length (front l)) 0) ≡ true
-front_stops [] h = absurd (omega arith)
-front_stops (b ∷ bs) h = go (front_stops bs) (separator b) refl h
-  where
-    go : (length (front bs) < length bs → separator (get_or bs (length (front bs)) 0) ≡ true)
-        → (s : Bool) → separator b ≡ s → length (cond s [] (b ∷ front bs)) < length (b ∷ bs) → separator (get_or (b ∷ bs) (length (cond s [] (b ∷ front bs))) 0) ≡ true
-    go more true e h = e
-    go more false e h = more (omega arith)
-
--- `Some` is never `None`, and tells its value
-never : {X : Type 0} (x : X) → None ≡ Some x → ⊥
-never x e = let z : ◌≡◌ {A = ℕ} 0 1 = cc in omega arith
-
-found : {X : Type 0} (x y : X) → Some x ≡ Some y → x ≡ y
-found x y e = cc
-
-never_both : true ≡ false → ⊥
-never_both e = let z : ◌≡◌ {A = ℕ} 0 1 = cc in omega arith
+front_stops l h = ap (λ k. separator (get_or l k 0)) (length_front l) ∙ not-false _ (prefix_len_stops (λ b. not (separator b)) l 0 (omega (arith, length_front l)))
 
 -- the word that begins with the byte b at offset i
 abbrev begun : ℕ → ℕ → List ℕ → Word
@@ -96,12 +73,12 @@ module _ (text : List ℕ) where
   parts_step : (i b : ℕ) (bs : List ℕ) → drop i text ≡ b ∷ bs → ((inside : Bool) → Free inside (i + 1) → AllParts (words inside (i + 1) bs))
       → (s inside : Bool) → separator b ≡ s → Free inside i → AllParts (words_by s inside i b bs)
   parts_step i b bs e more true inside sep free k w m = more false (free_after i false (ap separator (at i b bs e).byte ∙ sep)) k w m
-  parts_step i b bs e more false true sep free k w m = more true (λ no. absurd (never_both no)) k w m
-  parts_step i b bs e more false false sep free zero w m = subst (Part text) (found _ _ m) (begun_part i b bs e sep (free refl))
-  parts_step i b bs e more false false sep free (suc k) w m = more true (λ no. absurd (never_both no)) k w m
+  parts_step i b bs e more false true sep free k w m = more true (λ no. absurd (true≢false no)) k w m
+  parts_step i b bs e more false false sep free zero w m = let is : begun i b bs ≡ w = cc in subst (Part text) is (begun_part i b bs e sep (free refl))
+  parts_step i b bs e more false false sep free (suc k) w m = more true (λ no. absurd (true≢false no)) k w m
 
   parts : (bs : List ℕ) (i : ℕ) → drop i text ≡ bs → (inside : Bool) → Free inside i → AllParts (words inside i bs)
-  parts [] i e inside free k w m = absurd (never w m)
+  parts [] i e inside free k w m = cc
   parts (b ∷ bs) i e inside free k w m = parts_step i b bs e (parts bs (i + 1) (at i b bs e).rest) (separator b) inside refl free k w m
 
   -- a byte from offset i on that is no separator lies in a word that begins there, or in one that goes on there
@@ -116,9 +93,9 @@ module _ (text : List ℕ) where
       → (s inside : Bool) → separator b ≡ s → i ≤ j → Reached (words_by s inside i b bs) inside i (cond s [] (b ∷ front bs)) j
   covered_step i b bs j byte solid more true inside sep h =
       ⊎_elim
-      (λ later. ⊎_elim inl (λ r. absurd (never_both (sym r.0))) (more false (omega arith)))
+      (λ later. ⊎_elim inl (λ r. absurd (true≢false (sym r.0))) (more false (omega arith)))
       (λ here. let same : i ≡ j = omega arith in
-      absurd (never_both (sym sep ∙ ap separator (sym byte) ∙ ap (λ k. separator (get_or text k 0)) same ∙ solid)))
+      absurd (true≢false (sym sep ∙ ap separator (sym byte) ∙ ap (λ k. separator (get_or text k 0)) same ∙ solid)))
       (cases_lt i j)
   covered_step i b bs j byte solid more false true sep h =
       ⊎_elim
@@ -146,11 +123,11 @@ later_step : (i b : ℕ) (bs : List ℕ) → ((inside : Bool) → Later inside (
 later_step i b bs more true true k w m = omega (arith, more false k w m)
 later_step i b bs more true false k w m = omega (arith, more false k w m)
 later_step i b bs more false true k w m = omega (arith, more true k w m)
-later_step i b bs more false false zero w m = omega (arith, ap (λ (v : Word). v.at) (found _ _ m))
+later_step i b bs more false false zero w m = let is : begun i b bs ≡ w = cc in omega (arith, ap (λ (v : Word). v.at) is)
 later_step i b bs more false false (suc k) w m = omega (arith, more true k w m)
 
 later : (bs : List ℕ) (i : ℕ) (inside : Bool) → Later inside i (front bs) (words inside i bs)
-later [] i inside k w m = absurd (never w m)
+later [] i inside k w m = cc
 later (b ∷ bs) i inside k w m = later_step i b bs (later bs (i + 1)) (separator b) inside k w m
 
 -- each word lies after the one before it
@@ -161,16 +138,16 @@ ordered_step : (i b : ℕ) (bs : List ℕ) → ((inside : Bool) → Ordered (wor
 ordered_step i b bs more true inside k v w m n = more false k v w m n
 ordered_step i b bs more false true k v w m n = more true k v w m n
 ordered_step i b bs more false false zero v w m n =
-    omega (arith, later bs (i + 1) true zero w n, ap past (found _ _ m))
+    let is : begun i b bs ≡ v = cc in omega (arith, later bs (i + 1) true zero w n, ap past is)
 ordered_step i b bs more false false (suc k) v w m n = more true k v w m n
 
 ordered : (bs : List ℕ) (i : ℕ) (inside : Bool) → Ordered (words inside i bs)
-ordered [] i inside k v w m n = absurd (never v m)
+ordered [] i inside k v w m n = cc
 ordered (b ∷ bs) i inside k v w m n = ordered_step i b bs (ordered bs (i + 1)) (separator b) inside k v w m n
 
 pub words_are_parts : WordsAreParts
 words_are_parts text = record {
   parts = parts text text 0 refl false (λ _ h. absurd (omega arith));
-  covered = λ i below solid. ⊎_elim (λ c. c) (λ r. absurd (never_both (sym r.0))) (covered text text 0 refl false i (omega arith) below solid);
+  covered = λ i below solid. ⊎_elim (λ c. c) (λ r. absurd (true≢false (sym r.0))) (covered text text 0 refl false i (omega arith) below solid);
   ordered = λ k v w m n. ordered text 0 false k v w m (ap (slice_get (words_from text 0)) (sym (add-one k)) ∙ n);
 }

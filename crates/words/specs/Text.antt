@@ -1,5 +1,6 @@
 -- The words of a text, where its comments end, and what each word is.
-use Rattle.std.specs.Prelude.{◌≡◌, ℕ, ◌+◌, ◌-◌, ◌≤◌, Bool, true, false, cond, not, ◌&&◌, ◌||◌, List, [], ◌∷◌, map, length, take, drop, ℤ, Some, None, Option, ◌==◌, nat_le}
+use Rattle.std.specs.Prelude.{ℕ, ◌+◌, Bool, true, false, cond, not, ◌&&◌, ◌||◌, List, [], ◌∷◌, map, drop, ℤ, Some, None, Option, ◌==◌, nat_le}
+use Rattle.std.specs.List.{list_all}
 use Rattle.words.specs.Number.{number}
 
 -- a blank, a tab, CR or LF: what parts the words
@@ -10,6 +11,16 @@ separator b = b == 32 || b == 9 || b == 13 || b == 10
 abbrev pub front : List ℕ → List ℕ
 front [] = []
 front (b ∷ bs) = cond (separator b) [] (b ∷ front bs)
+
+-- the bytes from the first word on
+abbrev pub from_word : List ℕ → List ℕ
+from_word [] = []
+from_word (b ∷ bs) = cond (separator b) (from_word bs) (b ∷ bs)
+
+-- the bytes from the first LF (10) on
+abbrev pub from_line_end : List ℕ → List ℕ
+from_line_end [] = []
+from_line_end (b ∷ bs) = cond (b == 10) (b ∷ bs) (from_line_end bs)
 
 -- a word: its offset in the text, and its bytes
 pub record Word : Type 0 where
@@ -72,18 +83,10 @@ placed w = (w.at, lexeme w.bytes)
 abbrev pub tokens_from : List ℕ → ℕ → List (ℕ × Lexeme)
 tokens_from text i = map placed (words_from text i)
 
--- the first word of the text from offset i on stands from offset `start` up to offset `end`
-pub record Spans (text : List ℕ) (i start end : ℕ) : Type 0 where
-  pub within : (start ≤ end) × (end ≤ length text)
-  pub bytes : front (drop start text) ≡ take (end - start) (drop start text)
-  pub ends : end ≡ start + length (front (drop start text))
-  pub first : tokens_from text i ≡ (start, lexeme (take (end - start) (drop start text))) ∷ tokens_from text end
-
 -- a byte that shows in print, from `!` (33) to `~` (126)
 abbrev pub visible : ℕ → Bool
 visible b = nat_le 33 b && nat_le b 126
 
 -- every byte shows in print
 abbrev pub printable : List ℕ → Bool
-printable [] = true
-printable (b ∷ bs) = visible b && printable bs
+printable bs = list_all visible bs

@@ -2,8 +2,6 @@
 ghost use Rattle.words.specs.Laws.{WordsAreParts};
 
 // Holds of every text: its words are its parts between separators, each once and in order.
-pub fn words_are_parts() -> u8
+pub fn words_are_parts()
     ensures { WordsAreParts }
-{
-    0
-}
+{}

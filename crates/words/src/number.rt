@@ -1,66 +1,30 @@
 // The number that a word writes.
-ghost use Rattle.std.specs.Prelude.{◌≡◌, ◌^◌, ◌<◌, ◌≤◌, length, IfSome};
+ghost use Rattle.std.specs.Prelude.{◌≡◌, pos};
 ghost use Rattle.std.specs.Option.{option_map};
-ghost use Rattle.words.specs.Number.{below_zero, digit, magnitude, number as numeral, read_on};
+ghost use Rattle.words.specs.Number.{magnitude, number as numeral};
+
+use std::str::from_utf8;
 
 // The most digits that a number may have.
 const MOST_DIGITS: usize = 9;
 
-fn is_digit(b: u8) -> bool
-    ensures { result ≡ digit b }
-{
-    b'0' <= b && b <= b'9'
-}
-
-// The number that a few digits write, or nothing where a byte is no digit.
-fn decimal(digits: &[u8]) -> Option<u32>
-    requires { length digits.now ≤ 9 }
-    ensures value { result ≡ read_on 0 digits.now }
-    ensures bound { IfSome result (λ n. n < 10 ^ 9) }
-{
-    let mut value = 0;
-    for d in digits {
-        if !is_digit(*d) {
-            return None;
-        }
-        value = 10 * value + u32::from(*d - b'0');
-    }
-    Some(value)
-}
-
 // One to nine digits, the first not 0.
-fn counting(digits: &[u8]) -> Option<u32>
-    ensures value { result ≡ magnitude digits.now }
-    ensures bound { IfSome result (λ n. n < 10 ^ 9) }
+fn magnitude(digits: &[u8]) -> Option<i32>
+    ensures { result ≡ option_map pos (magnitude digits.now) }
 {
     match digits {
-        [] | [b'0', ..] => None,
-        _ if digits.len() <= MOST_DIGITS => decimal(digits),
+        [b'1'..=b'9', ..] if digits.len() <= MOST_DIGITS => from_utf8(digits).ok()?.parse().ok(),
         _ => None,
     }
-}
-
-// The number below 0 that the digits after a minus write.
-fn negative(digits: &[u8]) -> Option<i32>
-    ensures { result ≡ option_map below_zero (magnitude digits.now) }
-{
-    let n = counting(digits)?;
-    Some(-(n as i32))
 }
 
 // `0`, or an optional minus and one to nine digits, the first not 0.
 pub(crate) fn number(word: &[u8]) -> Option<i32>
     ensures { result ≡ numeral word.now }
 {
-    let [first, digits @ ..] = word else {
-        return None;
-    };
-    match *first {
-        b'-' => negative(digits),
-        b'0' if digits.is_empty() => Some(0),
-        _ => {
-            let n = counting(word)?;
-            Some(n as i32)
-        }
+    match word {
+        [b'0'] => Some(0),
+        [b'-', digits @ ..] => magnitude(digits).map(|n| -n),
+        _ => magnitude(word),
     }
 }

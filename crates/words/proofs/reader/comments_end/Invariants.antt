@@ -1,6 +1,9 @@
-use Rattle.std.proofs.Common.{◌≡◌, drop}
-use Rattle.words.specs.Text.{past_comments, body}
+use Rattle.std.proofs.Common.{length}
+use Rattle.words.proofs.Comments.{Behind}
 use Rattle.words.proofs.reader.comments_end.Given as goal
 
-abbrev pub invariant-loop-i : goal.invariant-loop-i
-invariant-loop-i l = past_comments l.comment l.i (drop l.i l.text) ≡ body l.text
+abbrev pub invariant-loop-rest : goal.invariant-loop-rest
+invariant-loop-rest l = Behind l.text l.rest
+
+abbrev pub decreases-loop-rest : goal.decreases-loop-rest
+decreases-loop-rest l = length l.rest
