@@ -8,7 +8,8 @@ ghost use Rattle.qdimacs.specs.View.{state_of};
 
 use crate::draft::Draft;
 
-// What is read of a text, and whether the text was accepted.
+// What is read of a text, and whether the text was accepted. A flag says so, and no `Option` or type of its own: what a refused text
+// left stands in the same draft.
 #[derive(Drop)]
 pub struct Formula {
     draft: Draft,

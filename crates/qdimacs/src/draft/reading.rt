@@ -142,8 +142,7 @@ impl Draft {
         if text.len() > MOST_BYTES {
             return Err(TOO_LONG);
         }
-        let mut words = Words::after_comments(text);
-        while let Some((place, token)) = words.next() {
+        for (place, token) in Words::after_comments(text) {
             self.take(token).map_err(|fault| fault.at(place))?;
         }
         self.ended().map_err(|fault| fault.at(text.len()))

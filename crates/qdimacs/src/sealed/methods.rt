@@ -56,7 +56,8 @@ impl Formula {
     }
 }
 
-// The look-ups of a sealed formula, each in constant time.
+// The look-ups of a sealed formula, each in constant time. They hand on what prefix and matrix tell, and no plainer form stands for them: to
+// hand out prefix and matrix would show what may still be begun in them, and ask of each caller to tie the two to the sealed formula.
 impl<'a> Sealed<'a> {
     // n: the variables are numbered 1 to n.
     pub fn variables(&self) -> usize

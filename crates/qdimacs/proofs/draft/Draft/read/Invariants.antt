@@ -6,8 +6,5 @@ use Rattle.qdimacs.proofs.draft.Draft.read.Given as goal
 
 -- the words that are left give the outcome, after what is read so far
 abbrev pub invariant-loop-place : goal.invariant-loop-place
-invariant-loop-place l = (l.words.text.now ≡ l.text)
-    × (run (length l.text) (state_of l.self) (tokens_from l.text l.words.at) ≡ reading l.text)
-
-abbrev pub decreases-loop-place : goal.decreases-loop-place
-decreases-loop-place l = length (tokens_from l.words.text.now l.words.at)
+invariant-loop-place l = (l.place-iterator.text.now ≡ l.text)
+    × (run (length l.text) (state_of l.self) (tokens_from l.text l.place-iterator.at) ≡ reading l.text)
