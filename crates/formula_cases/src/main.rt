@@ -44,6 +44,19 @@ fn one_byte(escaped: &[u8]) -> Option<(u8, &[u8])>
     }
 }
 
+// Why no bytes come of a text column.
+#[derive(Drop)]
+enum DecodeError {
+    NotWellWritten,
+    OutOfMemory(AllocError),
+}
+
+impl From<AllocError> for DecodeError {
+    fn from(error: AllocError) -> Self {
+        DecodeError::OutOfMemory(error)
+    }
+}
+
 // Appends byte after byte, and gives what is left where none is written.
 fn append<'a>(bytes: &mut Vec<u8>, escaped: &'a [u8]) -> Result<&'a [u8], AllocError>
     ensures { IfOk result (λ rest. length rest.now ≤ length escaped.now) }
@@ -56,16 +69,13 @@ fn append<'a>(bytes: &mut Vec<u8>, escaped: &'a [u8]) -> Result<&'a [u8], AllocE
     Ok(rest)
 }
 
-// What stands before the first `mark`, and what behind it.
-fn cut(bytes: &[u8], mark: u8) -> Option<(&[u8], &[u8])>
-    ensures { IfSome result (λ w. length w.0.now + length w.1.now < length bytes.now) }
-{
-    for (i, b) in bytes.iter().enumerate() {
-        if *b == mark {
-            return Some((&bytes[0..i], &bytes[i + 1..]));
-        }
+// Nothing may be left at the end.
+fn expect_end(rest: &[u8]) -> Result<(), DecodeError> {
+    if rest.is_empty() {
+        Ok(())
+    } else {
+        Err(DecodeError::NotWellWritten)
     }
-    None
 }
 
 // `COUNT*BYTES}`, and what is behind it.
@@ -79,36 +89,45 @@ struct Repetition<'a> {
 fn repeated_in(escaped: &[u8]) -> Option<Repetition<'_>>
     ensures { IfSome result (λ p. length p.rest.now < length escaped.now) }
 {
-    let (count, rest) = cut(escaped, b'*')?;
-    let (bytes, rest) = cut(rest, b'}')?;
-    let count = from_utf8(count).ok()?.parse::<usize>().ok()?;
-    Some(Repetition { count, bytes, rest })
+    let (count, rest) = from_utf8(escaped).ok()?.split_once('*')?;
+    let (bytes, rest) = rest.split_once('}')?;
+    Some(Repetition {
+        count: count.parse().ok()?,
+        bytes: bytes.as_bytes(),
+        rest: rest.as_bytes(),
+    })
 }
 
-// Appends the bytes that a text column stands for, and tells whether it is well written.
-fn decode(bytes: &mut Vec<u8>, escaped: &[u8]) -> Result<bool, AllocError> {
-    let mut rest = append(bytes, escaped)?;
-    while let [b'\\', b'{', behind @ ..] = rest {
-        let Some(repeated) = repeated_in(behind) else {
-            return Ok(false);
-        };
-        for _ in 0..repeated.count {
-            if !append(bytes, repeated.bytes)?.is_empty() {
-                return Ok(false);
-            }
-        }
-        rest = append(bytes, repeated.rest)?;
+// Appends the bytes as often as the count says.
+fn append_repeated(bytes: &mut Vec<u8>, repeated: Repetition<'_>) -> Result<(), DecodeError> {
+    for _ in 0..repeated.count {
+        expect_end(append(bytes, repeated.bytes)?)?;
     }
-    Ok(rest.is_empty())
+    Ok(())
+}
+
+// The bytes that a text column stands for.
+fn decode(heap: Global, escaped: &[u8]) -> Result<Vec<u8>, DecodeError> {
+    let mut bytes = Vec::new(heap);
+    let mut rest = append(&mut bytes, escaped)?;
+    while let [b'\\', b'{', behind @ ..] = rest {
+        let repeated = repeated_in(behind).ok_or(DecodeError::NotWellWritten)?;
+        append_repeated(&mut bytes, repeated)?;
+        rest = append(&mut bytes, repeated.rest)?;
+    }
+    expect_end(rest)?;
+    Ok(bytes)
 }
 
 // The line for a text column.
 fn line_for(heap: Global, escaped: &str) -> Result<String, AllocError> {
-    let mut text = Vec::new(heap);
-    if decode(&mut text, escaped.as_bytes())? {
-        formula_line(heap, text.as_slice())
-    } else {
-        String::from_str(heap, "a text that is not well written")
+    match decode(heap, escaped.as_bytes()) {
+        Ok(text) => formula_line(heap, text.as_slice()),
+        Err(DecodeError::NotWellWritten) => String::from_str(
+            heap,
+            "a text that is not well written",
+        ),
+        Err(DecodeError::OutOfMemory(error)) => Err(error),
     }
 }
 
@@ -135,17 +154,15 @@ fn main(rt: HostRuntime) -> io::Result<()> {
     let table = fs::read_to_string(&rt, "cases.txt")?;
     let mut cases = 0usize;
     let mut wrong = 0usize;
-    for line in table.as_str().lines() {
-        // a line without columns is a heading
-        if let Some(case) = case_in(line) {
-            cases += 1;
-            let got = line_for(rt.alloc(), case.text)?;
-            if got.as_str() != case.expected {
-                wrong += 1;
-                let name = case.name;
-                let expected = case.expected;
-                println!(rt; "{name}: expected {expected}, got {got}")?;
-            }
+    // a line without columns is a heading
+    for case in table.as_str().lines().filter_map(case_in) {
+        cases += 1;
+        let got = line_for(rt.alloc(), case.text)?;
+        if got.as_str() != case.expected {
+            wrong += 1;
+            let name = case.name;
+            let expected = case.expected;
+            println!(rt; "{name}: expected {expected}, got {got}")?;
         }
     }
     println!(rt; "{cases} cases, {wrong} wrong")

@@ -5,7 +5,7 @@ ghost use Rattle.words.specs.Text.{separator, front, from_word, from_line_end, t
 
 use crate::token::{Token, token_of};
 
-// A blank, a tab, CR or LF.
+// A blank, a tab, CR or LF. `is_ascii_whitespace` would take the form feed too.
 fn is_separator(b: &u8) -> bool
     ensures { result ≡ separator b.now }
 {
@@ -68,7 +68,7 @@ impl<'a> Words<'a> {
     }
 }
 
-// Gives the words that are left, each by its offset in the text and what it is.
+// Gives the words that are left, each by its offset in the text and what it is. `GivesWord` says what a call of `next` promises.
 impl<'a> Iterator for Words<'a> {
     ghost use Rattle.std.specs.Iterator.{item_count};
     ghost use Rattle.words.specs.Next.{GivesWord, left};

@@ -1,9 +1,9 @@
 use Rattle.std.proofs.Common.{◌+◌, ◌^◌, ◌<◌, ◌≤◌}
 use Rattle.formula_cases.proofs.main.Given as goal
 
-abbrev pub invariant-loop-line : goal.invariant-loop-line
-invariant-loop-line l =
-    (goal.iterator-loop-line).can_next l.line-iterator ×
-    (goal.iterator-loop-line).is_finite l.line-iterator ×
-    (l.cases + (goal.iterator-loop-line).remaining l.line-iterator < 2 ^ 64) ×
+abbrev pub invariant-loop-case : goal.invariant-loop-case
+invariant-loop-case l =
+    (goal.iterator-loop-case).can_next l.case-iterator ×
+    (goal.iterator-loop-case).is_finite l.case-iterator ×
+    (l.cases + (goal.iterator-loop-case).remaining l.case-iterator < 2 ^ 64) ×
     (l.wrong ≤ l.cases)
