@@ -1,17 +1,15 @@
 -- Blocks as they are kept: levels, one variable more, one block more. Assumes nothing.
-use Rattle.std.proofs.Common.{◌≡◌, ℕ, zero, suc, ◌+◌, ◌-◌, ◌<◌, ◌≤◌, Bool, true, false, cond, not, ◌||◌, eqb, leb, List, [], ◌∷◌, ◌++◌, length, get_or, take, drop, set, replicate, Some, None, Ok, Err, Option, Result, sym, refl, ap, ◌∙◌, subst, ap₂, ⊎_elim, arith}
+use Rattle.std.proofs.Common.{◌≡◌, ℕ, zero, suc, ◌+◌, ◌-◌, ◌<◌, ◌≤◌, Bool, true, false, cond, not, ◌||◌, eqb, leb, List, [], ◌∷◌, ◌++◌, length, get_or, set, replicate, Some, None, Ok, Err, Option, Result, sym, refl, ap, ◌∙◌, ⊎_elim, arith}
 use Rattle.std.specs.List.{slice_get}
-use Rattle.std.proofs.lemmas.List.{get_or-replicate, get_or-set_same, get_or-set_other, length-set, drop-append-le, drop_all, take_rest, take-append-drop, take_more, flat_map_more}
+use Rattle.std.proofs.lemmas.List.{get_or-replicate, get_or-set_same, get_or-set_other, length-set, flat_map_more}
 use Rattle.std.proofs.lemmas.Bool.{cases_eq, eq-eqb, eqb-true, ne_eqb, not-true, not-false, false≢true, or_left, or_right, or_parts, or_from, both_ways, cond_both, and_parts, and_from, cond-true, cond-false, leb-false, le-leb, lt-leb}
-use Rattle.std.specs.Option.{option_map}
+use Rattle.std.specs.Option.{option_map, option_map_or}
 use Rattle.refusal.specs.declared.Reason.{Reason}
 use Rattle.refusal.specs.declared.Reason.TheVariants.{VariableOutOfRange, BoundTwice, BadBlock, TooMany}
 use Rattle.formula.specs.declared.letter.Letter.{Letter}
-use Rattle.formula.specs.declared.letter.BlockEnd.{BlockEnd}
 use Rattle.formula.specs.declared.letter.Letter.TheVariants.{Universal}
-use Rattle.formula.specs.Cuts.{part, last_end}
-use Rattle.formula.specs.Prefix.{Block, has_var, order, level_from, level, in_range, blocks_in, begun_in, block_end, as_block, BlocksLie, with_begun, LevelsTold, all_in_range, marked, PrefixModel, with_var, with_block, bound, unbindable, no_block, end_block, ends_in, same_letter, owner}
-use Rattle.formula.proofs.Parts.{cut_grown, cut_push, length_cut, joined_cut, last_push, climbs_push}
+use Rattle.formula.specs.Sections.{Section, items_of}
+use Rattle.formula.specs.Prefix.{Block, has_var, order, level_from, level, in_range, blocks_in, with_begun, LevelsTold, all_in_range, marked, PrefixModel, with_block, bound, unbindable, no_block, end_block, ends_in, same_letter, owner}
 
 never : {X : Type 0} {x : X} → ◌≡◌ {A = Option X} (Some x) None → ⊥
 never e = let z : ◌≡◌ {A = ℕ} 0 1 = cc in absurd (omega arith)
@@ -92,32 +90,21 @@ range_push n (z ∷ xs) x all one =
 
 -- ---- the variables of the blocks
 
-module _ (ends : List BlockEnd) (xs : List ℕ) (start : ℕ) (lie : BlocksLie ends start (length xs)) where
-  -- the prefix order is what stands before the block that is being read
-  pub order_kept : order (blocks_in ends xs) ≡ take start xs
-  order_kept =
-      joined_cut block_end as_block (λ (b : Block). b.vars) (λ _ _. refl) 0 ends xs lie.0
-      ∙ ap (λ n. take n xs) {x = last_end block_end 0 ends - 0} {y = start} (omega (arith, lie.1))
+-- the prefix order is what stands before the block that is being read
+pub order_kept : (ss : List (Section Letter ℕ)) → order (blocks_in ss) ≡ items_of ss
+order_kept [] = refl
+order_kept (s ∷ ss) = ap (λ l. s.items ++ l) (order_kept ss)
 
-  pub begun_kept : begun_in ends xs ≡ drop start xs
-  begun_kept = ap (λ n. drop n xs) lie.1
-
-  -- all variables, as they were bound
-  pub all_kept : order (blocks_in ends xs) ++ begun_in ends xs ≡ xs
-  all_kept = ap₂ ◌++◌ order_kept begun_kept ∙ take-append-drop start xs
-
-  order_begun : (begun : List ℕ) → order (with_begun (blocks_in ends xs) begun) ≡ order (blocks_in ends xs) ++ begun
-  order_begun begun = sym (flat_map_more (λ (b : Block). b.vars) [] (blocks_in ends xs) (record { letter = Universal; vars = begun }))
+module _ (bs : List Block) (begun : List ℕ) where
+  order_begun : order (with_begun bs begun) ≡ order bs ++ begun
+  order_begun = sym (flat_map_more (λ (b : Block). b.vars) [] bs (record { letter = Universal; vars = begun }))
 
   -- a level is 0 exactly if the variable is unbound
-  pub level_unbound : (x : ℕ) → eqb (level (with_begun (blocks_in ends xs) (begun_in ends xs)) x) 0 ≡ not (has_var (order (blocks_in ends xs) ++ begun_in ends xs) x)
-  level_unbound x =
-      level_zero 1 (with_begun (blocks_in ends xs) (begun_in ends xs)) x (omega arith)
-      ∙ ap (λ l. not (has_var l x)) (order_begun (begun_in ends xs))
+  pub level_unbound : (x : ℕ) → eqb (level (with_begun bs begun) x) 0 ≡ not (has_var (order bs ++ begun) x)
+  level_unbound x = level_zero 1 (with_begun bs begun) x (omega arith) ∙ ap (λ l. not (has_var l x)) order_begun
 
-  pub level_out : (n x : ℕ) → all_in_range n xs ≡ true → in_range n x ≡ false → level (with_begun (blocks_in ends xs) (begun_in ends xs)) x ≡ 0
-  level_out n x all out =
-      eqb-true _ 0 (level_unbound x ∙ ap not (ap (λ l. has_var l x) all_kept ∙ none_out_of_range n xs x all out))
+  pub level_out : (n x : ℕ) → all_in_range n (order bs ++ begun) ≡ true → in_range n x ≡ false → level (with_begun bs begun) x ≡ 0
+  level_out n x all out = eqb-true _ 0 (level_unbound x ∙ ap not (none_out_of_range n (order bs ++ begun) x all out))
 
 -- ---- no variable is bound
 
@@ -153,78 +140,33 @@ mark_left ms n x size low high first there =
     let two = marked_set (set ms 0 1) x 1 (omega (arith, length-set ms 0 1)) (get_or-set_other ms 0 x 1 0 (λ e. omega arith) ∙ there) (λ e. omega arith) in
     omega (arith, one, two, marked_few (set (set ms 0 1) x 1), length-set (set ms 0 1) x 1, length-set ms 0 1)
 
--- ---- one variable more
+-- ---- one variable more, and one block more
 
-module _ (ends : List BlockEnd) (xs : List ℕ) (start : ℕ) (lie : BlocksLie ends start (length xs)) (x : ℕ) where
-  within : last_end block_end 0 ends ≤ length xs
-  within = omega (arith, lie.1, lie.2)
-
-  blocks_stay : blocks_in ends (xs ++ x ∷ []) ≡ blocks_in ends xs
-  blocks_stay = cut_grown block_end as_block 0 ends xs (x ∷ []) lie.0 within
-
-  begun_longer : begun_in ends (xs ++ x ∷ []) ≡ begun_in ends xs ++ x ∷ []
-  begun_longer = drop-append-le (last_end block_end 0 ends) xs (x ∷ []) within
-
-  pub var_model : (n : ℕ) (ys : List ℕ) → ys ≡ xs ++ x ∷ []
-      → ◌≡◌ {A = PrefixModel} (record { size = n; blocks = blocks_in ends ys; begun = begun_in ends ys })
-      (with_var x (record { size = n; blocks = blocks_in ends xs; begun = begun_in ends xs }))
-  var_model n ys e = ap (λ (zs : List ℕ). record { size = n; blocks = blocks_in ends zs; begun = begun_in ends zs }) e
-      ∙ ap₂ (λ (b : List Block) (v : List ℕ). record { size = n; blocks = b; begun = v }) blocks_stay begun_longer
-
-  pub var_levels : (levels : List ℕ) (count : ℕ) (ys : List ℕ) → length levels ≡ 1025 → count ≡ length ends → ys ≡ xs ++ x ∷ [] → x < 1025
-      → has_var (order (blocks_in ends xs) ++ begun_in ends xs) x ≡ false
-      → LevelsTold levels (blocks_in ends xs) (begun_in ends xs) → LevelsTold (set levels x (count + 1)) (blocks_in ends ys) (begun_in ends ys)
-  var_levels levels count ys size counted e fits new told z h =
-      let bs = blocks_in ends xs in
-      let begun = begun_in ends xs in
-      let here = ap (λ (zs : List ℕ). level (with_begun (blocks_in ends zs) (begun_in ends zs)) z) e
-      ∙ ap₂ (λ (b : List Block) (v : List ℕ). level (with_begun b v) z) blocks_stay begun_longer
-      ∙ level_push 1 bs (record { letter = Universal; vars = begun ++ x ∷ [] }) z in
+module _ (bs : List Block) (begun : List ℕ) (levels : List ℕ) (told : LevelsTold levels bs begun) where
+  pub var_levels : (x : ℕ) → length levels ≡ 1025 → x < 1025 → has_var (order bs ++ begun) x ≡ false
+      → LevelsTold (set levels x (length bs + 1)) bs (begun ++ x ∷ [])
+  var_levels x size fits new z h =
+      let here = level_push 1 bs (record { letter = Universal; vars = begun ++ x ∷ [] }) z in
       ⊎_elim
       (λ (same : z ≡ x).
       let free = or_parts (has_var (order bs) x) (has_var begun x) (sym (has_append (order bs) begun x) ∙ new) in
       let out : has_var (order bs) z ≡ false = ap (has_var (order bs)) same ∙ free.0 in
       let there : has_var (begun ++ x ∷ []) z ≡ true = ap (has_var (begun ++ x ∷ [])) same ∙ has_push_same begun x in
-      ap (λ k. get_or (set levels x (count + 1)) k 0) same ∙ get_or-set_same levels x (count + 1) 0 (omega arith)
-      ∙ sym (here ∙ cond-false _ _ _ out ∙ cond-true _ _ _ there ∙ omega (arith, length_cut block_end as_block 0 ends xs)))
+      ap (λ k. get_or (set levels x (length bs + 1)) k 0) same ∙ get_or-set_same levels x (length bs + 1) 0 (omega arith)
+      ∙ sym (here ∙ cond-false _ _ _ out ∙ cond-true _ _ _ there ∙ omega arith))
       (λ (other : z ≡ x → ⊥).
-      get_or-set_other levels x z (count + 1) 0 other ∙ told z h
+      get_or-set_other levels x z (length bs + 1) 0 other ∙ told z h
       ∙ level_push 1 bs (record { letter = Universal; vars = begun }) z
       ∙ ap (λ t. cond (has_var (order bs) z) (level_from 1 bs z) (cond t (1 + length bs) 0)) (sym (has_push_other begun x z (λ s. other (sym s))))
       ∙ sym here)
       (cases_eq z x)
 
--- ---- one block more
-
-module _ (ends : List BlockEnd) (xs : List ℕ) (start : ℕ) (lie : BlocksLie ends start (length xs)) (l : Letter) (bound : ℕ) (size : bound ≡ length xs) (more : List BlockEnd) (e : more ≡ ends ++ record { letter = l; end = bound } ∷ []) where
-  blocks_longer : blocks_in more xs ≡ blocks_in ends xs ++ record { letter = l; vars = begun_in ends xs } ∷ []
-  blocks_longer =
-      ap (λ (m : List BlockEnd). blocks_in m xs) e ∙ cut_push block_end as_block 0 ends (record { letter = l; end = bound }) xs
-      ∙ ap (λ n. blocks_in ends xs ++ record { letter = l; vars = take (n - last_end block_end 0 ends) (drop (last_end block_end 0 ends) xs) } ∷ []) size
-      ∙ ap (λ v. blocks_in ends xs ++ record { letter = l; vars = v } ∷ []) (take_rest xs (last_end block_end 0 ends))
-
-  none_begun : begun_in more xs ≡ []
-  none_begun = ap (λ (m : List BlockEnd). begun_in m xs) e ∙ ap (λ n. drop n xs) (last_push block_end 0 ends (record { letter = l; end = bound })) ∙ drop_all bound xs (omega arith)
-
-  pub block_model : (n : ℕ)
-      → ◌≡◌ {A = PrefixModel} (record { size = n; blocks = blocks_in more xs; begun = begun_in more xs })
-      (with_block l (record { size = n; blocks = blocks_in ends xs; begun = begun_in ends xs }))
-  block_model n = ap₂ (λ (b : List Block) (v : List ℕ). record { size = n; blocks = b; begun = v }) blocks_longer none_begun
-
-  pub block_lies : BlocksLie more bound bound
-  block_lies =
-      subst (λ (m : List BlockEnd). BlocksLie m bound bound) (sym e)
-      (climbs_push block_end 0 ends (record { letter = l; end = bound }) lie.0 (omega (arith, lie.1, lie.2)), last_push block_end 0 ends (record { letter = l; end = bound }), omega arith)
-
-  pub block_levels : (levels : List ℕ) → LevelsTold levels (blocks_in ends xs) (begun_in ends xs) → LevelsTold levels (blocks_in more xs) (begun_in more xs)
-  block_levels levels told x h =
-      let bs = blocks_in ends xs in
-      let begun = begun_in ends xs in
+  pub block_levels : (l : Letter) → LevelsTold levels (bs ++ record { letter = l; vars = begun } ∷ []) []
+  block_levels l x h =
       told x h
       ∙ level_push 1 bs (record { letter = Universal; vars = begun }) x
       ∙ sym (level_push 1 bs (record { letter = l; vars = begun }) x)
       ∙ sym (level_closed (bs ++ record { letter = l; vars = begun } ∷ []) x)
-      ∙ sym (ap₂ (λ (b : List Block) (v : List ℕ). level (with_begun b v) x) blocks_longer none_begun)
 
 -- ---- what the refusals rest on
 
@@ -264,16 +206,18 @@ module _ (l : Letter) (p : PrefixModel) (fine : no_block l p ≡ None) where
 
 -- ---- the last block
 
-pub ends_in_push : (l : Letter) (bs : List Block) (b : Block) → ends_in l (bs ++ b ∷ []) ≡ same_letter l b.letter
-ends_in_push l [] b = refl
-ends_in_push l (c ∷ []) b = refl
-ends_in_push l (c ∷ d ∷ bs) b = ends_in_push l (d ∷ bs) b
+ends_more : (l : Letter) (s : Section Letter ℕ) (ss : List (Section Letter ℕ))
+    → ends_in l (blocks_in (s ∷ ss)) ≡ option_map_or (same_letter l) (option_map (λ (t : Section Letter ℕ). t.head) (slice_get (s ∷ ss) (length ss))) false
+ends_more l s [] = refl
+ends_more l s (t ∷ ss) = ends_more l t ss
 
-pub ends_in_kept : (l : Letter) (ends : List BlockEnd) (n : ℕ) (e : BlockEnd) (xs : List ℕ) → n < length ends → ends_in l (blocks_in (take (n + 1) ends) xs) ≡ same_letter l (get_or ends n e).letter
-ends_in_kept l ends n e xs low =
-    ap (λ (es : List BlockEnd). ends_in l (blocks_in es xs)) (take_more ends n e low)
-    ∙ ap (ends_in l) (cut_push block_end as_block 0 (take n ends) (get_or ends n e) xs)
-    ∙ ends_in_push l (blocks_in (take n ends) xs) (record { letter = (get_or ends n e).letter; vars = part (last_end block_end 0 (take n ends)) (get_or ends n e).end xs })
+-- the letter of the last block
+pub ends_in_last : (l : Letter) (ss : List (Section Letter ℕ))
+    → ends_in l (blocks_in ss) ≡ option_map_or (same_letter l) (option_map (λ (t : Section Letter ℕ). t.head) (slice_get ss (length ss - 1))) false
+ends_in_last l [] = refl
+ends_in_last l (s ∷ ss) =
+    ends_more l s ss
+    ∙ ap (λ n. option_map_or (same_letter l) (option_map (λ (t : Section Letter ℕ). t.head) (slice_get (s ∷ ss) n)) false) {x = length ss} {y = suc (length ss) - 1} (omega arith)
 
 -- ---- level and owner by the marks
 
@@ -331,12 +275,19 @@ module _ (bs : List Block) (begun : List ℕ) (x : ℕ) where
       by true is = absurd (omega (arith, told_by ∙ cond-true _ _ _ is, (level_found 1 bs x is).1))
       by false is = level_none bs x is
 
--- a level of 0 says that nobody owns the variable; any other names its block
+-- a level of 0 says that nobody owns the variable; any other names its block, which has the owner's letter
 pub owner_zero : (bs : List Block) (x : ℕ) → level bs x ≡ 0 → owner bs x ≡ None
 owner_zero bs x e = owner_none bs x (not-true (has_var (order bs) x) (sym (level_zero 1 bs x (omega arith)) ∙ eq-eqb _ 0 e))
 
-pub owner_some : (bs : List Block) (x : ℕ) → (level bs x ≡ 0 → ⊥) → (level bs x ≤ length bs) × (owner bs x ≡ option_map (λ (b : Block). b.letter) (slice_get bs (level bs x - 1)))
-owner_some bs x some =
-    let there = not-false (has_var (order bs) x) (sym (level_zero 1 bs x (omega arith)) ∙ ne_eqb _ 0 some) in
-    let found = level_found 1 bs x there in
-    (omega (arith, found.1), found.2)
+letters_kept : (ss : List (Section Letter ℕ)) (k : ℕ) → option_map (λ (b : Block). b.letter) (slice_get (blocks_in ss) k) ≡ option_map (λ (s : Section Letter ℕ). s.head) (slice_get ss k)
+letters_kept [] k = refl
+letters_kept (s ∷ ss) zero = refl
+letters_kept (s ∷ ss) (suc k) = letters_kept ss k
+
+pub owner_at : (ss : List (Section Letter ℕ)) (x k : ℕ) → level (blocks_in ss) x ≡ k + 1
+    → owner (blocks_in ss) x ≡ option_map (λ (s : Section Letter ℕ). s.head) (slice_get ss k)
+owner_at ss x k is =
+    let bs = blocks_in ss in
+    let there = not-false (has_var (order bs) x) (sym (level_zero 1 bs x (omega arith)) ∙ ne_eqb _ 0 (λ e. omega (arith, is))) in
+    let place : level bs x - 1 ≡ k = omega (arith, is) in
+    (level_found 1 bs x there).2 ∙ ap (λ n. option_map (λ (b : Block). b.letter) (slice_get bs n)) place ∙ letters_kept ss k
