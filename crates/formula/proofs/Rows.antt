@@ -1,6 +1,7 @@
 -- Rows as they are kept: one literal more, one row more. Assumes nothing.
 use Rattle.std.proofs.Common.{◌≡◌, ℕ, ◌+◌, ◌<◌, ◌≤◌, Bool, true, false, cond, ◌||◌, eqb, leb, List, [], ◌∷◌, ◌++◌, length, get_or, set, replicate, Some, None, Ok, Err, Option, Result, sym, refl, ap, ◌∙◌, ⊎_elim, arith}
 use Rattle.std.proofs.lemmas.List.{get_or-replicate, get_or-set_same, get_or-set_other, length-append}
+use Rattle.std.proofs.Math.Bool.{or-false, or_assoc}
 use Rattle.std.proofs.lemmas.Bool.Decides.{nat_tests}
 use Rattle.refusal.specs.declared.Reason.{Reason}
 use Rattle.refusal.specs.declared.Reason.TheVariants.{TooMany}
@@ -14,20 +15,8 @@ pub no_marks : MarksTold (replicate 1025 0) 0 []
 no_marks x h = let is = get_or-replicate 1025 x 0 0 h in (ap (λ k. eqb k 1) is, omega (arith, is))
 
 names_push : (ls : List Literal) (l : Literal) (x : ℕ) → names (ls ++ l ∷ []) x ≡ (names ls x || eqb l.variable x)
-names_push [] l x = by (eqb l.variable x)
-  where
-    by : (b : Bool) → (b || false) ≡ (false || b)
-    by true = refl
-    by false = refl
-names_push (k ∷ ls) l x = ap (λ b. eqb k.variable x || b) (names_push ls l x) ∙ by (eqb k.variable x) (names ls x) (eqb l.variable x)
-  where
-    by : (a b c : Bool) → (a || (b || c)) ≡ ((a || b) || c)
-    by true b c = refl
-    by false b c = refl
-
-or_false : (b : Bool) → (b || false) ≡ b
-or_false true = refl
-or_false false = refl
+names_push [] l x = or-false (eqb l.variable x)
+names_push (k ∷ ls) l x = ap (λ b. eqb k.variable x || b) (names_push ls l x) ∙ sym (or_assoc (eqb k.variable x) (names ls x) (eqb l.variable x))
 
 -- ---- one literal more, and one row more
 
@@ -35,22 +24,14 @@ module _ (seen : List ℕ) (rows : ℕ) (begun : List Literal) (told : MarksTold
   pub literal_marks : (l : Literal) → length seen ≡ 1025 → l.variable < 1025 → MarksTold (set seen l.variable (rows + 1)) rows (begun ++ l ∷ [])
   literal_marks l size fits x h =
       let named = names_push begun l x in
+      let there = told x h in
       ⊎_elim
-      (λ same.
-      let is = ap (λ k. get_or (set seen l.variable (rows + 1)) k 0) same ∙ get_or-set_same seen l.variable (rows + 1) 0 (omega arith) in (
-        eq-eqb _ (rows + 1) is ∙ sym (named ∙ or_right (names begun x) _ (eq-eqb l.variable x (sym same))),
-        omega (arith, is),
-      ))
-      (λ other.
-      let is = get_or-set_other seen l.variable x (rows + 1) 0 other in (
-        ap (λ k. eqb k (rows + 1)) is ∙ (told x h).0
-            ∙ sym (named ∙ ap (λ b. names begun x || b) (ne_eqb l.variable x (λ s. other (sym s))) ∙ or_false (names begun x)),
-        omega (arith, is, (told x h).1),
-      ))
+      (λ (same : x ≡ l.variable). let is = get_or-set_same seen l.variable (rows + 1) 0 (omega arith) in grind (arith, nat_tests))
+      (λ (other : x ≡ l.variable → ⊥). let is = get_or-set_other seen l.variable x (rows + 1) 0 other in grind (arith, nat_tests))
       (cases_eq x l.variable)
 
   pub row_marks : MarksTold seen (rows + 1) []
-  row_marks x h = (ne_eqb _ _ (λ s. omega (arith, (told x h).1)), omega (arith, (told x h).1))
+  row_marks x h = let there = told x h in grind (arith, nat_tests)
 
 -- the literals of the complete rows
 pub literals_kept : (ss : List (Section (Unit {0}) Literal)) → all_literals (rows_in ss) ≡ items_of ss
@@ -64,19 +45,11 @@ literal_total rows = omega (arith, ap length (literals_kept rows.complete), leng
 -- ---- what a literal's refusal rests on
 
 module _ (l : Literal) (m : MatrixModel) (fine : forbidden l m ≡ None) where
-  after : Option Reason → Result MatrixModel Reason
-  after o = elim o as (λ _. Result MatrixModel Reason) [ Some r ↦ Err r | None ↦ cond (leb 16384 (literal_count m)) (Err TooMany) (Ok (with_literal l m)) ]
-
   pub no_room : 16384 ≤ literal_count m → add_literal l m ≡ Err TooMany
-  unfolding after
-  no_room full = ap after fine ∙ cond-true _ _ _ (le-leb 16384 _ full)
+  no_room full = grind (arith, nat_tests)
 
   pub added : literal_count m < 16384 → add_literal l m ≡ Ok (with_literal l m)
-  unfolding after
-  added room = ap after fine ∙ cond-false _ _ _ (lt-leb 16384 _ room)
+  added room = grind (arith, nat_tests)
 
   pub fitting : l.variable < 1025
   fitting = grind (arith, nat_tests)
-
-  pub row_wanted : length m.rows < m.due
-  row_wanted = grind (arith, nat_tests)
