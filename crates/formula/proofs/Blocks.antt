@@ -1,123 +1,74 @@
 -- Blocks as they are kept: levels, one variable more, one block more. Assumes nothing.
-use Rattle.std.proofs.Common.{◌≡◌, ℕ, zero, suc, ◌+◌, ◌-◌, ◌<◌, ◌≤◌, Bool, true, false, cond, not, ◌||◌, eqb, leb, List, [], ◌∷◌, ◌++◌, length, get_or, take, drop, set, replicate, Some, None, Ok, Err, Option, Result, sym, refl, ap, ◌∙◌, subst, ap₂, ⊎_elim, arith}
+use Rattle.std.proofs.Common.{◌≡◌, ℕ, zero, suc, ◌+◌, ◌-◌, ◌<◌, ◌≤◌, Bool, true, false, cond, not, ◌||◌, eqb, leb, List, [], ◌∷◌, ◌++◌, length, get_or, set, replicate, Some, None, Ok, Err, Option, Result, sym, refl, ap, ◌∙◌, ⊎_elim, arith}
 use Rattle.std.specs.List.{slice_get}
-use Rattle.std.proofs.lemmas.List.{get_or-replicate, get_or-set_same, get_or-set_other, length-set, drop-append-le, drop_all, take_rest, take-append-drop, take_more, flat_map_more}
+use Rattle.std.proofs.Math.Bool.{or_assoc}
+use Rattle.std.proofs.lemmas.Bool.Decides.{nat_tests}
+use Rattle.std.proofs.lemmas.Option.{none-some}
+use Rattle.std.proofs.lemmas.List.{get_or-replicate, get_or-set_same, get_or-set_other, length-set, flat_map_more}
 use Rattle.std.proofs.lemmas.Bool.{cases_eq, eq-eqb, eqb-true, ne_eqb, not-true, not-false, false≢true, or_left, or_right, or_parts, or_from, both_ways, cond_both, and_parts, and_from, cond-true, cond-false, leb-false, le-leb, lt-leb}
-use Rattle.std.specs.Option.{option_map}
+use Rattle.std.specs.Option.{option_map, option_map_or}
 use Rattle.refusal.specs.declared.Reason.{Reason}
 use Rattle.refusal.specs.declared.Reason.TheVariants.{VariableOutOfRange, BoundTwice, BadBlock, TooMany}
 use Rattle.formula.specs.declared.letter.Letter.{Letter}
-use Rattle.formula.specs.declared.letter.BlockEnd.{BlockEnd}
 use Rattle.formula.specs.declared.letter.Letter.TheVariants.{Universal}
-use Rattle.formula.specs.Cuts.{part, last_end}
-use Rattle.formula.specs.Prefix.{Block, has_var, order, level_from, level, in_range, blocks_in, begun_in, block_end, as_block, BlocksLie, with_begun, LevelsTold, all_in_range, marked, PrefixModel, with_var, with_block, bound, unbindable, no_block, end_block, ends_in, same_letter, owner}
-use Rattle.formula.proofs.Parts.{cut_grown, cut_push, length_cut, joined_cut, last_push, climbs_push}
-
-never : {X : Type 0} {x : X} → ◌≡◌ {A = Option X} (Some x) None → ⊥
-never e = let z : ◌≡◌ {A = ℕ} 0 1 = cc in absurd (omega arith)
+use Rattle.formula.specs.Sections.{Section, items_of}
+use Rattle.formula.specs.Prefix.{Block, has_var, order, level_from, level, in_range, blocks_in, with_begun, LevelsTold, all_in_range, marked, PrefixModel, with_block, bound, unbindable, no_block, end_block, ends_in, same_letter, owner}
 
 -- ---- membership
 
-or_assoc : (a b c : Bool) → (a || (b || c)) ≡ ((a || b) || c)
-or_assoc true b c = refl
-or_assoc false b c = refl
-
-or_false : (b : Bool) → (b || false) ≡ b
-or_false true = refl
-or_false false = refl
-
 pub has_append : (xs ys : List ℕ) (x : ℕ) → has_var (xs ++ ys) x ≡ (has_var xs x || has_var ys x)
 has_append [] ys x = refl
-has_append (z ∷ xs) ys x = ap (λ b. eqb z x || b) (has_append xs ys x) ∙ or_assoc (eqb z x) (has_var xs x) (has_var ys x)
+has_append (z ∷ xs) ys x = ap (λ b. eqb z x || b) (has_append xs ys x) ∙ sym (or_assoc (eqb z x) (has_var xs x) (has_var ys x))
 
 pub has_push_same : (xs : List ℕ) (x : ℕ) → has_var (xs ++ x ∷ []) x ≡ true
-has_push_same xs x = has_append xs (x ∷ []) x ∙ or_right (has_var xs x) _ (or_left (eqb x x) false (eq-eqb x x refl))
+has_push_same xs x = grind (arith, nat_tests, has_append)
 
 pub has_push_other : (xs : List ℕ) (y x : ℕ) → (y ≡ x → ⊥) → has_var (xs ++ y ∷ []) x ≡ has_var xs x
-has_push_other xs y x other =
-    has_append xs (y ∷ []) x ∙ ap (λ b. has_var xs x || (b || false)) (ne_eqb y x other) ∙ or_false (has_var xs x)
+has_push_other xs y x other = grind (arith, nat_tests, has_append)
 
 -- ---- levels
 
 -- a variable has level 0 exactly if no block has it
 pub level_zero : (l : ℕ) (bs : List Block) (x : ℕ) → 1 ≤ l → eqb (level_from l bs x) 0 ≡ not (has_var (order bs) x)
 level_zero l [] x low = refl
-level_zero l (b ∷ bs) x low =
-    by (has_var b.vars x) refl (level_zero (l + 1) bs x (omega arith)) ∙ sym (ap not (has_append b.vars (order bs) x))
-  where
-    by : (t : Bool) → has_var b.vars x ≡ t → eqb (level_from (l + 1) bs x) 0 ≡ not (has_var (order bs) x)
-        → eqb (cond (has_var b.vars x) l (level_from (l + 1) bs x)) 0 ≡ not (has_var b.vars x || has_var (order bs) x)
-    by true is rest = ap (λ t. eqb (cond t l (level_from (l + 1) bs x)) 0) is ∙ ne_eqb l 0 (λ e. omega arith) ∙ sym (ap (λ t. not (t || has_var (order bs) x)) is)
-    by false is rest = ap (λ t. eqb (cond t l (level_from (l + 1) bs x)) 0) is ∙ rest ∙ sym (ap (λ t. not (t || has_var (order bs) x)) is)
+level_zero l (b ∷ bs) x low = grind (arith, nat_tests, level_zero (l + 1) bs x (omega arith), has_append b.vars (order bs) x)
 
 -- the level of a variable in one block more
 pub level_push : (l : ℕ) (bs : List Block) (b : Block) (x : ℕ)
     → level_from l (bs ++ b ∷ []) x ≡ cond (has_var (order bs) x) (level_from l bs x) (cond (has_var b.vars x) (l + length bs) 0)
-level_push l [] b x = ap (λ n. cond (has_var b.vars x) n 0) (omega arith)
-level_push l (c ∷ bs) b x =
-    by (has_var c.vars x) refl (level_push (l + 1) bs b x) ∙ sym (ap (λ t. cond t (level_from l (c ∷ bs) x) (cond (has_var b.vars x) (l + length (c ∷ bs)) 0)) (has_append c.vars (order bs) x))
-  where
-    by : (t : Bool) → has_var c.vars x ≡ t
-        → level_from (l + 1) (bs ++ b ∷ []) x ≡ cond (has_var (order bs) x) (level_from (l + 1) bs x) (cond (has_var b.vars x) (l + 1 + length bs) 0)
-        → cond (has_var c.vars x) l (level_from (l + 1) (bs ++ b ∷ []) x)
-        ≡ cond (has_var c.vars x || has_var (order bs) x) (cond (has_var c.vars x) l (level_from (l + 1) bs x)) (cond (has_var b.vars x) (l + length (c ∷ bs)) 0)
-    by true is rest = cond-true _ _ _ is ∙ sym (cond-true _ _ _ (or_left _ (has_var (order bs) x) is) ∙ cond-true _ _ _ is)
-    by false is rest =
-        cond-false _ _ _ is ∙ rest
-        ∙ ap (λ n. cond (has_var (order bs) x) (level_from (l + 1) bs x) (cond (has_var b.vars x) n 0)) {x = l + 1 + length bs} {y = l + length (c ∷ bs)} (omega arith)
-        ∙ sym (ap (λ t. cond (t || has_var (order bs) x) (cond t l (level_from (l + 1) bs x)) (cond (has_var b.vars x) (l + length (c ∷ bs)) 0)) is)
+level_push l [] b x = grind arith
+level_push l (c ∷ bs) b x = grind (arith, nat_tests, level_push (l + 1) bs b x, has_append c.vars (order bs) x)
 
 -- a level counts only complete blocks where no further one is begun
 pub level_closed : (bs : List Block) (x : ℕ) → level (with_begun bs []) x ≡ level bs x
-level_closed bs x = level_push 1 bs (record { letter = Universal; vars = [] }) x ∙ by (has_var (order bs) x) refl
-  where
-    by : (t : Bool) → has_var (order bs) x ≡ t → cond (has_var (order bs) x) (level_from 1 bs x) 0 ≡ level_from 1 bs x
-    by true is = cond-true _ _ _ is
-    by false is = cond-false _ _ _ is ∙ sym (eqb-true (level_from 1 bs x) 0 (level_zero 1 bs x (omega arith) ∙ ap not is))
+level_closed bs x = grind (arith, nat_tests, level_push 1 bs (record { letter = Universal; vars = [] }) x, level_zero 1 bs x (omega arith))
 
 -- ---- what is out of range, is not bound
 
 pub none_out_of_range : (n : ℕ) (xs : List ℕ) (x : ℕ) → all_in_range n xs ≡ true → in_range n x ≡ false → has_var xs x ≡ false
 none_out_of_range n [] x all out = refl
-none_out_of_range n (z ∷ xs) x all out =
-    let both = and_parts (in_range n z) (all_in_range n xs) all in
-    let apart : z ≡ x → ⊥ = λ same. both_ways (in_range n x) out (ap (in_range n) (sym same) ∙ both.0) in
-    or_from (eqb z x) (has_var xs x) (ne_eqb z x apart) (none_out_of_range n xs x both.1 out)
+none_out_of_range n (z ∷ xs) x all out = grind (arith, nat_tests, none_out_of_range n xs x)
 
 pub range_push : (n : ℕ) (xs : List ℕ) (x : ℕ) → all_in_range n xs ≡ true → in_range n x ≡ true → all_in_range n (xs ++ x ∷ []) ≡ true
 range_push n [] x all one = and_from (in_range n x) true one refl
-range_push n (z ∷ xs) x all one =
-    let both = and_parts (in_range n z) (all_in_range n xs) all in
-    and_from (in_range n z) (all_in_range n (xs ++ x ∷ [])) both.0 (range_push n xs x both.1 one)
+range_push n (z ∷ xs) x all one = grind (arith, nat_tests, range_push n xs x)
 
 -- ---- the variables of the blocks
 
-module _ (ends : List BlockEnd) (xs : List ℕ) (start : ℕ) (lie : BlocksLie ends start (length xs)) where
-  -- the prefix order is what stands before the block that is being read
-  pub order_kept : order (blocks_in ends xs) ≡ take start xs
-  order_kept =
-      joined_cut block_end as_block (λ (b : Block). b.vars) (λ _ _. refl) 0 ends xs lie.0
-      ∙ ap (λ n. take n xs) {x = last_end block_end 0 ends - 0} {y = start} (omega (arith, lie.1))
+-- the variables of the complete blocks, as they were bound
+pub order_kept : (ss : List (Section Letter ℕ)) → order (blocks_in ss) ≡ items_of ss
+order_kept [] = refl
+order_kept (s ∷ ss) = ap (λ l. s.items ++ l) (order_kept ss)
 
-  pub begun_kept : begun_in ends xs ≡ drop start xs
-  begun_kept = ap (λ n. drop n xs) lie.1
-
-  -- all variables, as they were bound
-  pub all_kept : order (blocks_in ends xs) ++ begun_in ends xs ≡ xs
-  all_kept = ap₂ ◌++◌ order_kept begun_kept ∙ take-append-drop start xs
-
-  order_begun : (begun : List ℕ) → order (with_begun (blocks_in ends xs) begun) ≡ order (blocks_in ends xs) ++ begun
-  order_begun begun = sym (flat_map_more (λ (b : Block). b.vars) [] (blocks_in ends xs) (record { letter = Universal; vars = begun }))
-
+module _ (bs : List Block) (begun : List ℕ) where
   -- a level is 0 exactly if the variable is unbound
-  pub level_unbound : (x : ℕ) → eqb (level (with_begun (blocks_in ends xs) (begun_in ends xs)) x) 0 ≡ not (has_var (order (blocks_in ends xs) ++ begun_in ends xs) x)
+  pub level_unbound : (x : ℕ) → eqb (level (with_begun bs begun) x) 0 ≡ not (has_var (order bs ++ begun) x)
   level_unbound x =
-      level_zero 1 (with_begun (blocks_in ends xs) (begun_in ends xs)) x (omega arith)
-      ∙ ap (λ l. not (has_var l x)) (order_begun (begun_in ends xs))
+      level_zero 1 (with_begun bs begun) x (omega arith)
+      ∙ ap (λ l. not (has_var l x)) (sym (flat_map_more (λ (b : Block). b.vars) [] bs (record { letter = Universal; vars = begun })))
 
-  pub level_out : (n x : ℕ) → all_in_range n xs ≡ true → in_range n x ≡ false → level (with_begun (blocks_in ends xs) (begun_in ends xs)) x ≡ 0
-  level_out n x all out =
-      eqb-true _ 0 (level_unbound x ∙ ap not (ap (λ l. has_var l x) all_kept ∙ none_out_of_range n xs x all out))
+  pub level_out : (n x : ℕ) → all_in_range n (order bs ++ begun) ≡ true → in_range n x ≡ false → level (with_begun bs begun) x ≡ 0
+  level_out n x all out = eqb-true _ 0 (level_unbound x ∙ ap not (none_out_of_range n (order bs ++ begun) x all out))
 
 -- ---- no variable is bound
 
@@ -128,19 +79,12 @@ no_levels x h = get_or-replicate 1025 x 0 0 h
 
 marked_few : (ms : List ℕ) → marked ms ≤ length ms
 marked_few [] = omega arith
-marked_few (m ∷ ms) = cond_both (eqb m 0) (marked ms) (marked ms + 1) (λ k. k ≤ suc (length ms)) (λ _. omega (arith, marked_few ms)) (λ _. omega (arith, marked_few ms))
+marked_few (m ∷ ms) = grind (arith, nat_tests, marked_few ms)
 
 pub marked_set : (ms : List ℕ) (i y : ℕ) → i < length ms → get_or ms i 0 ≡ 0 → (y ≡ 0 → ⊥) → marked (set ms i y) ≡ marked ms + 1
 marked_set [] i y low zero-there some = absurd (omega arith)
-marked_set (m ∷ ms) zero y low zero-there some =
-    cond-false (eqb y 0) (marked ms) (marked ms + 1) (ne_eqb y 0 some) ∙ ap (λ k. k + 1) (sym (cond-true (eqb m 0) (marked ms) (marked ms + 1) (eq-eqb m 0 zero-there)))
-marked_set (m ∷ ms) (suc i) y low zero-there some =
-    let rest = marked_set ms i y (omega arith) zero-there some in
-    ap (λ k. cond (eqb m 0) k (k + 1)) rest ∙ by (eqb m 0)
-  where
-    by : (t : Bool) → cond t (marked ms + 1) (marked ms + 1 + 1) ≡ cond t (marked ms) (marked ms + 1) + 1
-    by true = refl
-    by false = refl
+marked_set (m ∷ ms) zero y low zero-there some = grind (arith, nat_tests)
+marked_set (m ∷ ms) (suc i) y low zero-there some = grind (arith, nat_tests, marked_set ms i y)
 
 pub marked_none : (n : ℕ) → marked (replicate n 0) ≡ 0
 marked_none zero = refl
@@ -153,163 +97,65 @@ mark_left ms n x size low high first there =
     let two = marked_set (set ms 0 1) x 1 (omega (arith, length-set ms 0 1)) (get_or-set_other ms 0 x 1 0 (λ e. omega arith) ∙ there) (λ e. omega arith) in
     omega (arith, one, two, marked_few (set (set ms 0 1) x 1), length-set (set ms 0 1) x 1, length-set ms 0 1)
 
--- ---- one variable more
+-- ---- one variable more, and one block more
 
-module _ (ends : List BlockEnd) (xs : List ℕ) (start : ℕ) (lie : BlocksLie ends start (length xs)) (x : ℕ) where
-  within : last_end block_end 0 ends ≤ length xs
-  within = omega (arith, lie.1, lie.2)
-
-  blocks_stay : blocks_in ends (xs ++ x ∷ []) ≡ blocks_in ends xs
-  blocks_stay = cut_grown block_end as_block 0 ends xs (x ∷ []) lie.0 within
-
-  begun_longer : begun_in ends (xs ++ x ∷ []) ≡ begun_in ends xs ++ x ∷ []
-  begun_longer = drop-append-le (last_end block_end 0 ends) xs (x ∷ []) within
-
-  pub var_model : (n : ℕ) (ys : List ℕ) → ys ≡ xs ++ x ∷ []
-      → ◌≡◌ {A = PrefixModel} (record { size = n; blocks = blocks_in ends ys; begun = begun_in ends ys })
-      (with_var x (record { size = n; blocks = blocks_in ends xs; begun = begun_in ends xs }))
-  var_model n ys e = ap (λ (zs : List ℕ). record { size = n; blocks = blocks_in ends zs; begun = begun_in ends zs }) e
-      ∙ ap₂ (λ (b : List Block) (v : List ℕ). record { size = n; blocks = b; begun = v }) blocks_stay begun_longer
-
-  pub var_levels : (levels : List ℕ) (count : ℕ) (ys : List ℕ) → length levels ≡ 1025 → count ≡ length ends → ys ≡ xs ++ x ∷ [] → x < 1025
-      → has_var (order (blocks_in ends xs) ++ begun_in ends xs) x ≡ false
-      → LevelsTold levels (blocks_in ends xs) (begun_in ends xs) → LevelsTold (set levels x (count + 1)) (blocks_in ends ys) (begun_in ends ys)
-  var_levels levels count ys size counted e fits new told z h =
-      let bs = blocks_in ends xs in
-      let begun = begun_in ends xs in
-      let here = ap (λ (zs : List ℕ). level (with_begun (blocks_in ends zs) (begun_in ends zs)) z) e
-      ∙ ap₂ (λ (b : List Block) (v : List ℕ). level (with_begun b v) z) blocks_stay begun_longer
-      ∙ level_push 1 bs (record { letter = Universal; vars = begun ++ x ∷ [] }) z in
+module _ (bs : List Block) (begun : List ℕ) (levels : List ℕ) (told : LevelsTold levels bs begun) where
+  pub var_levels : (x : ℕ) → length levels ≡ 1025 → x < 1025 → has_var (order bs ++ begun) x ≡ false
+      → LevelsTold (set levels x (length bs + 1)) bs (begun ++ x ∷ [])
+  var_levels x size fits new z h =
+      let here = level_push 1 bs (record { letter = Universal; vars = begun ++ x ∷ [] }) z in
+      let before = level_push 1 bs (record { letter = Universal; vars = begun }) z in
+      let there = told z h in
+      let free = has_append (order bs) begun x in
       ⊎_elim
-      (λ (same : z ≡ x).
-      let free = or_parts (has_var (order bs) x) (has_var begun x) (sym (has_append (order bs) begun x) ∙ new) in
-      let out : has_var (order bs) z ≡ false = ap (has_var (order bs)) same ∙ free.0 in
-      let there : has_var (begun ++ x ∷ []) z ≡ true = ap (has_var (begun ++ x ∷ [])) same ∙ has_push_same begun x in
-      ap (λ k. get_or (set levels x (count + 1)) k 0) same ∙ get_or-set_same levels x (count + 1) 0 (omega arith)
-      ∙ sym (here ∙ cond-false _ _ _ out ∙ cond-true _ _ _ there ∙ omega (arith, length_cut block_end as_block 0 ends xs)))
-      (λ (other : z ≡ x → ⊥).
-      get_or-set_other levels x z (count + 1) 0 other ∙ told z h
-      ∙ level_push 1 bs (record { letter = Universal; vars = begun }) z
-      ∙ ap (λ t. cond (has_var (order bs) z) (level_from 1 bs z) (cond t (1 + length bs) 0)) (sym (has_push_other begun x z (λ s. other (sym s))))
-      ∙ sym here)
+      (λ (same : z ≡ x). let is = get_or-set_same levels x (length bs + 1) 0 (omega arith) in grind (arith, nat_tests, has_push_same begun x))
+      (λ (other : z ≡ x → ⊥). let is = get_or-set_other levels x z (length bs + 1) 0 other in grind (arith, nat_tests, has_push_other begun x z))
       (cases_eq z x)
 
--- ---- one block more
-
-module _ (ends : List BlockEnd) (xs : List ℕ) (start : ℕ) (lie : BlocksLie ends start (length xs)) (l : Letter) (bound : ℕ) (size : bound ≡ length xs) (more : List BlockEnd) (e : more ≡ ends ++ record { letter = l; end = bound } ∷ []) where
-  blocks_longer : blocks_in more xs ≡ blocks_in ends xs ++ record { letter = l; vars = begun_in ends xs } ∷ []
-  blocks_longer =
-      ap (λ (m : List BlockEnd). blocks_in m xs) e ∙ cut_push block_end as_block 0 ends (record { letter = l; end = bound }) xs
-      ∙ ap (λ n. blocks_in ends xs ++ record { letter = l; vars = take (n - last_end block_end 0 ends) (drop (last_end block_end 0 ends) xs) } ∷ []) size
-      ∙ ap (λ v. blocks_in ends xs ++ record { letter = l; vars = v } ∷ []) (take_rest xs (last_end block_end 0 ends))
-
-  none_begun : begun_in more xs ≡ []
-  none_begun = ap (λ (m : List BlockEnd). begun_in m xs) e ∙ ap (λ n. drop n xs) (last_push block_end 0 ends (record { letter = l; end = bound })) ∙ drop_all bound xs (omega arith)
-
-  pub block_model : (n : ℕ)
-      → ◌≡◌ {A = PrefixModel} (record { size = n; blocks = blocks_in more xs; begun = begun_in more xs })
-      (with_block l (record { size = n; blocks = blocks_in ends xs; begun = begun_in ends xs }))
-  block_model n = ap₂ (λ (b : List Block) (v : List ℕ). record { size = n; blocks = b; begun = v }) blocks_longer none_begun
-
-  pub block_lies : BlocksLie more bound bound
-  block_lies =
-      subst (λ (m : List BlockEnd). BlocksLie m bound bound) (sym e)
-      (climbs_push block_end 0 ends (record { letter = l; end = bound }) lie.0 (omega (arith, lie.1, lie.2)), last_push block_end 0 ends (record { letter = l; end = bound }), omega arith)
-
-  pub block_levels : (levels : List ℕ) → LevelsTold levels (blocks_in ends xs) (begun_in ends xs) → LevelsTold levels (blocks_in more xs) (begun_in more xs)
-  block_levels levels told x h =
-      let bs = blocks_in ends xs in
-      let begun = begun_in ends xs in
-      told x h
-      ∙ level_push 1 bs (record { letter = Universal; vars = begun }) x
-      ∙ sym (level_push 1 bs (record { letter = l; vars = begun }) x)
-      ∙ sym (level_closed (bs ++ record { letter = l; vars = begun } ∷ []) x)
-      ∙ sym (ap₂ (λ (b : List Block) (v : List ℕ). level (with_begun b v) x) blocks_longer none_begun)
+  pub block_levels : (l : Letter) → LevelsTold levels (bs ++ record { letter = l; vars = begun } ∷ []) []
+  block_levels l x h =
+      let before = level_push 1 bs (record { letter = Universal; vars = begun }) x in
+      let after = level_push 1 bs (record { letter = l; vars = begun }) x in
+      told x h ∙ before ∙ sym after ∙ sym (level_closed (bs ++ record { letter = l; vars = begun } ∷ []) x)
 
 -- ---- what the refusals rest on
 
 pub bindable : (x : ℕ) (p : PrefixModel) → unbindable x p ≡ None → (in_range p.size x ≡ true) × (bound p x ≡ false)
-bindable x p fine = by (in_range p.size x) (bound p x) fine
-  where
-    by : (a b : Bool) → cond a (cond b (Some BoundTwice) None) (Some VariableOutOfRange) ≡ None → (a ≡ true) × (b ≡ false)
-    by true true e = absurd (never e)
-    by true false e = (refl, refl)
-    by false b e = absurd (never e)
+bindable x p fine = grind (arith, nat_tests)
 
 pub blocks_fit : (l : Letter) (p : PrefixModel) → no_block l p ≡ None → length p.blocks < 64
-blocks_fit l p fine = by (ends_in l p.blocks) (leb 64 (length p.blocks)) refl fine
-  where
-    by : (a b : Bool) → leb 64 (length p.blocks) ≡ b → cond a (Some BadBlock) (cond b (Some TooMany) None) ≡ None → length p.blocks < 64
-    by true b is e = absurd (never e)
-    by false true is e = absurd (never e)
-    by false false is e = leb-false 64 _ is
-
-pub no_block_full : (l : Letter) (p : PrefixModel) → ends_in l p.blocks ≡ false → 64 ≤ length p.blocks → no_block l p ≡ Some TooMany
-no_block_full l p other full = cond-false _ _ _ other ∙ cond-true _ _ _ (le-leb 64 _ full)
+blocks_fit l p fine = grind (arith, nat_tests)
 
 pub no_block_none : (l : Letter) (p : PrefixModel) → ends_in l p.blocks ≡ false → length p.blocks < 64 → no_block l p ≡ None
-no_block_none l p other room = cond-false _ _ _ other ∙ cond-false _ _ _ (lt-leb 64 _ room)
+no_block_none l p other room = grind (arith, nat_tests)
 
-module _ (l : Letter) (p : PrefixModel) (fine : no_block l p ≡ None) where
-  ending : Option Reason → Result PrefixModel Reason
-  ending o = elim o as (λ _. Result PrefixModel Reason) [ Some r ↦ Err r | None ↦ cond (eqb (length p.begun) 0) (Err BadBlock) (Ok (with_block l p)) ]
-
-  pub block_empty : length p.begun ≡ 0 → end_block l p ≡ Err BadBlock
-  unfolding ending
-  block_empty none = ap ending fine ∙ cond-true _ _ _ (eq-eqb _ 0 none)
-
-  pub block_ended : (length p.begun ≡ 0 → ⊥) → end_block l p ≡ Ok (with_block l p)
-  unfolding ending
-  block_ended some = ap ending fine ∙ cond-false _ _ _ (ne_eqb _ 0 some)
+pub block_ended : (l : Letter) (p : PrefixModel) → no_block l p ≡ None → (length p.begun ≡ 0 → ⊥) → end_block l p ≡ Ok (with_block l p)
+block_ended l p fine some = grind (arith, nat_tests)
 
 -- ---- the last block
 
-pub ends_in_push : (l : Letter) (bs : List Block) (b : Block) → ends_in l (bs ++ b ∷ []) ≡ same_letter l b.letter
-ends_in_push l [] b = refl
-ends_in_push l (c ∷ []) b = refl
-ends_in_push l (c ∷ d ∷ bs) b = ends_in_push l (d ∷ bs) b
+ends_more : (l : Letter) (s : Section Letter ℕ) (ss : List (Section Letter ℕ))
+    → ends_in l (blocks_in (s ∷ ss)) ≡ option_map_or (same_letter l) (option_map (λ (t : Section Letter ℕ). t.head) (slice_get (s ∷ ss) (length ss))) false
+ends_more l s [] = refl
+ends_more l s (t ∷ ss) = ends_more l t ss
 
-pub ends_in_kept : (l : Letter) (ends : List BlockEnd) (n : ℕ) (e : BlockEnd) (xs : List ℕ) → n < length ends → ends_in l (blocks_in (take (n + 1) ends) xs) ≡ same_letter l (get_or ends n e).letter
-ends_in_kept l ends n e xs low =
-    ap (λ (es : List BlockEnd). ends_in l (blocks_in es xs)) (take_more ends n e low)
-    ∙ ap (ends_in l) (cut_push block_end as_block 0 (take n ends) (get_or ends n e) xs)
-    ∙ ends_in_push l (blocks_in (take n ends) xs) (record { letter = (get_or ends n e).letter; vars = part (last_end block_end 0 (take n ends)) (get_or ends n e).end xs })
+-- the letter of the last block
+pub ends_in_last : (l : Letter) (ss : List (Section Letter ℕ))
+    → ends_in l (blocks_in ss) ≡ option_map_or (same_letter l) (option_map (λ (t : Section Letter ℕ). t.head) (slice_get ss (length ss - 1))) false
+ends_in_last l [] = refl
+ends_in_last l (s ∷ ss) =
+    ends_more l s ss
+    ∙ ap (λ n. option_map_or (same_letter l) (option_map (λ (t : Section Letter ℕ). t.head) (slice_get (s ∷ ss) n)) false) {x = length ss} {y = suc (length ss) - 1} (omega arith)
 
 -- ---- level and owner by the marks
 
--- a variable of the blocks: its level counts a block, which has its owner's letter
-pub level_found : (l : ℕ) (bs : List Block) (x : ℕ) → has_var (order bs) x ≡ true
-    → (l ≤ level_from l bs x) × (level_from l bs x < l + length bs) × (owner bs x ≡ option_map (λ (b : Block). b.letter) (slice_get bs (level_from l bs x - l)))
-level_found l [] x there = absurd (false≢true there)
-level_found l (b ∷ bs) x there = by (λ h. level_found (l + 1) bs x h) (has_var b.vars x) refl
-  where
-    by : (has_var (order bs) x ≡ true → (l + 1 ≤ level_from (l + 1) bs x) × (level_from (l + 1) bs x < l + 1 + length bs) × (owner bs x ≡ option_map (λ (c : Block). c.letter) (slice_get bs (level_from (l + 1) bs x - (l + 1)))))
-        → (t : Bool) → has_var b.vars x ≡ t
-        → (l ≤ level_from l (b ∷ bs) x) × (level_from l (b ∷ bs) x < l + length (b ∷ bs)) × (owner (b ∷ bs) x ≡ option_map (λ (c : Block). c.letter) (slice_get (b ∷ bs) (level_from l (b ∷ bs) x - l)))
-    by more true is =
-        let here : level_from l (b ∷ bs) x ≡ l = cond-true (has_var b.vars x) l (level_from (l + 1) bs x) is in
-        let none : level_from l (b ∷ bs) x - l ≡ 0 = omega (arith, here) in (
-          omega (arith, here),
-          omega (arith, here),
-          cond-true (has_var b.vars x) (Some b.letter) (owner bs x) is ∙ sym (ap (λ n. option_map (λ (c : Block). c.letter) (slice_get (b ∷ bs) n)) none),
-        )
-    by more false is =
-        let rest = more (sym (ap (λ t. t || has_var (order bs) x) is) ∙ sym (has_append b.vars (order bs) x) ∙ there) in
-        let here : level_from l (b ∷ bs) x ≡ level_from (l + 1) bs x = cond-false (has_var b.vars x) l (level_from (l + 1) bs x) is in
-        let next : level_from l (b ∷ bs) x - l ≡ suc (level_from (l + 1) bs x - (l + 1)) = omega (arith, here, rest.0) in (
-          omega (arith, here, rest.0),
-          omega (arith, here, rest.1),
-          cond-false (has_var b.vars x) (Some b.letter) (owner bs x) is ∙ rest.2 ∙ sym (ap (λ n. option_map (λ (c : Block). c.letter) (slice_get (b ∷ bs) n)) next),
-        )
-
-pub owner_none : (bs : List Block) (x : ℕ) → has_var (order bs) x ≡ false → owner bs x ≡ None
-owner_none [] x out = refl
-owner_none (b ∷ bs) x out =
-    let both = or_parts (has_var b.vars x) (has_var (order bs) x) (sym (has_append b.vars (order bs) x) ∙ out) in
-    cond-false (has_var b.vars x) (Some b.letter) (owner bs x) both.0 ∙ owner_none bs x both.1
+-- the level of a variable of the blocks counts one of them
+level_within : (l : ℕ) (bs : List Block) (x : ℕ) → has_var (order bs) x ≡ true → (l ≤ level_from l bs x) × (level_from l bs x < l + length bs)
+level_within l [] x there = absurd (false≢true there)
+level_within l (b ∷ bs) x there = grind (arith, nat_tests, level_within (l + 1) bs x, has_append b.vars (order bs) x)
 
 level_none : (bs : List Block) (x : ℕ) → has_var (order bs) x ≡ false → level bs x ≡ 0
-level_none bs x out = eqb-true (level bs x) 0 (level_zero 1 bs x (omega arith) ∙ ap not out)
+level_none bs x out = grind (arith, nat_tests, level_zero 1 bs x (omega arith))
 
 -- a mark that counts a complete block is the level; any other says that there is none
 module _ (bs : List Block) (begun : List ℕ) (x : ℕ) where
@@ -317,26 +163,26 @@ module _ (bs : List Block) (begun : List ℕ) (x : ℕ) where
   told_by = level_push 1 bs (record { letter = Universal; vars = begun }) x
 
   pub mark_low : level (with_begun bs begun) x ≤ length bs → level bs x ≡ level (with_begun bs begun) x
-  mark_low low = by (has_var (order bs) x) refl (has_var begun x) refl
-    where
-      by : (t : Bool) → has_var (order bs) x ≡ t → (u : Bool) → has_var begun x ≡ u → level bs x ≡ level (with_begun bs begun) x
-      by true is u _ = sym (told_by ∙ cond-true _ _ _ is)
-      by false is true has = absurd (omega (arith, told_by ∙ cond-false _ _ _ is ∙ cond-true _ _ _ has))
-      by false is false has = level_none bs x is ∙ sym (told_by ∙ cond-false _ _ _ is ∙ cond-false _ _ _ has)
+  mark_low low = grind (arith, nat_tests, told_by, level_none bs x)
 
   pub mark_high : length bs < level (with_begun bs begun) x → level bs x ≡ 0
-  mark_high high = by (has_var (order bs) x) refl
-    where
-      by : (t : Bool) → has_var (order bs) x ≡ t → level bs x ≡ 0
-      by true is = absurd (omega (arith, told_by ∙ cond-true _ _ _ is, (level_found 1 bs x is).1))
-      by false is = level_none bs x is
+  mark_high high = grind (arith, nat_tests, told_by, level_none bs x, level_within 1 bs x)
 
--- a level of 0 says that nobody owns the variable; any other names its block
+-- a level of 0 says that nobody owns the variable; any other names its block, which has the owner's letter
+pub owner_none : (bs : List Block) (x : ℕ) → has_var (order bs) x ≡ false → owner bs x ≡ None
+owner_none [] x out = refl
+owner_none (b ∷ bs) x out = grind (arith, nat_tests, owner_none bs x, has_append b.vars (order bs) x)
+
 pub owner_zero : (bs : List Block) (x : ℕ) → level bs x ≡ 0 → owner bs x ≡ None
-owner_zero bs x e = owner_none bs x (not-true (has_var (order bs) x) (sym (level_zero 1 bs x (omega arith)) ∙ eq-eqb _ 0 e))
+owner_zero bs x e = grind (arith, nat_tests, owner_none bs x, level_zero 1 bs x (omega arith))
 
-pub owner_some : (bs : List Block) (x : ℕ) → (level bs x ≡ 0 → ⊥) → (level bs x ≤ length bs) × (owner bs x ≡ option_map (λ (b : Block). b.letter) (slice_get bs (level bs x - 1)))
-owner_some bs x some =
-    let there = not-false (has_var (order bs) x) (sym (level_zero 1 bs x (omega arith)) ∙ ne_eqb _ 0 some) in
-    let found = level_found 1 bs x there in
-    (omega (arith, found.1), found.2)
+owner_from : (l : ℕ) (ss : List (Section Letter ℕ)) (x k : ℕ) → 1 ≤ l → level_from l (blocks_in ss) x ≡ l + k
+    → owner (blocks_in ss) x ≡ option_map (λ (s : Section Letter ℕ). s.head) (slice_get ss k)
+owner_from l [] x k low is = absurd (omega arith)
+owner_from l (s ∷ ss) x zero low is =
+    grind (arith, nat_tests, level_within (l + 1) (blocks_in ss) x, level_zero (l + 1) (blocks_in ss) x (omega arith))
+owner_from l (s ∷ ss) x (suc k) low is = grind (arith, nat_tests, owner_from (l + 1) ss x k)
+
+pub owner_at : (ss : List (Section Letter ℕ)) (x k : ℕ) → level (blocks_in ss) x ≡ k + 1
+    → owner (blocks_in ss) x ≡ option_map (λ (s : Section Letter ℕ). s.head) (slice_get ss k)
+owner_at ss x k is = owner_from 1 ss x k (omega arith) (omega (arith, is))

@@ -1,6 +1,8 @@
-mod Grows
 pub mod Parts
+mod Looked
+mod SectionLemmas
 mod Rows
 pub mod Blocks
 mod Kept
+pub mod Told
 pub mod WellFormed

@@ -1,6 +1,7 @@
 -- A list cut into parts, as it and its cuts grow. Assumes nothing.
 use Rattle.std.proofs.Common.{◌≡◌, ℕ, zero, suc, ◌+◌, ◌-◌, ◌<◌, ◌≤◌, true, leb, List, [], ◌∷◌, ◌++◌, length, get_or, take, drop, Some, sym, refl, ap, ◌∙◌, ap₂, arith}
 use Rattle.std.specs.List.{slice_get, flat_map}
+use Rattle.std.specs.Option.{option_map_or}
 use Rattle.std.proofs.lemmas.List.{take-append-le, drop-append-le, length-drop, drop-drop, take-take, drop-take, take_more}
 use Rattle.std.proofs.lemmas.Bool.{and_parts, and_from, leb-true, le-leb}
 use Rattle.formula.specs.Cuts.{part, last_end, climbs, cut}
@@ -46,6 +47,15 @@ module _ {E : Type 0} (end : E → ℕ) where
   last_push at [] e = refl
   last_push at (d ∷ es) e = last_push (end d) es e
 
+  last_more : (at : ℕ) (e : E) (es : List E) → last_end end (end e) es ≡ option_map_or end (slice_get (e ∷ es) (length es)) at
+  last_more at e [] = refl
+  last_more at e (d ∷ es) = last_more at d es
+
+  -- the last entry tells where the last part ends
+  pub last_or : (at : ℕ) (es : List E) → last_end end at es ≡ option_map_or end (slice_get es (length es - 1)) at
+  last_or at [] = refl
+  last_or at (e ∷ es) = last_more at e es ∙ ap (λ n. option_map_or end (slice_get (e ∷ es) n) at) {x = length es} {y = suc (length es) - 1} (omega arith)
+
   -- where the part before the one at k + 1 ends
   pub last_at : (at : ℕ) (es : List E) (k : ℕ) (d : E) → k < length es → last_end end at (take (k + 1) es) ≡ end (get_or es k d)
   last_at at es k d low = ap (last_end end at) (take_more es k d low) ∙ last_push at (take k es) (get_or es k d)
@@ -60,6 +70,15 @@ module _ {E : Type 0} (end : E → ℕ) where
   climbs_at at (e ∷ es) (suc k) d up low =
       let both = and_parts (leb at (end e)) (climbs end (end e) es) up in
       climbs_at (end e) es k d both.1 (omega arith)
+
+  -- the first parts lie as all do
+  pub climbs_front : (k at : ℕ) (es : List E) → climbs end at es ≡ true → (climbs end at (take k es) ≡ true) × (last_end end at (take k es) ≤ last_end end at es)
+  climbs_front zero at es up = (refl, last_above at es up)
+  climbs_front (suc k) at [] up = (refl, omega arith)
+  climbs_front (suc k) at (e ∷ es) up =
+      let both = and_parts (leb at (end e)) (climbs end (end e) es) up in
+      let rest = climbs_front k (end e) es both.1 in
+      (and_from _ _ both.0 rest.0, rest.1)
 
   pub climbs_push : (at : ℕ) (es : List E) (e : E) → climbs end at es ≡ true → last_end end at es ≤ end e → climbs end at (es ++ e ∷ []) ≡ true
   climbs_push at [] e up low = and_from _ _ (le-leb at (end e) low) refl
@@ -81,6 +100,11 @@ module _ {E : Type 0} (end : E → ℕ) where
     pub cut_push : (at : ℕ) (es : List E) (e : E) (xs : List X) → cut end make at (es ++ e ∷ []) xs ≡ cut end make at es xs ++ make e (part (last_end end at es) (end e) xs) ∷ []
     cut_push at [] e xs = refl
     cut_push at (d ∷ es) e xs = ap (λ l. make d (part at (end d) xs) ∷ l) (cut_push (end d) es e xs)
+
+    pub take_cut : (k at : ℕ) (es : List E) (xs : List X) → take k (cut end make at es xs) ≡ cut end make at (take k es) xs
+    take_cut zero at es xs = refl
+    take_cut (suc k) at [] xs = refl
+    take_cut (suc k) at (e ∷ es) xs = ap (λ l. make e (part at (end e) xs) ∷ l) (take_cut k (end e) es xs)
 
     pub length_cut : (at : ℕ) (es : List E) (xs : List X) → length (cut end make at es xs) ≡ length es
     length_cut at [] xs = refl

@@ -1,5 +1,6 @@
-pub mod Room
 pub mod Cuts
+pub mod Sections
+pub mod Ends
 pub mod Told
 pub mod Prefix
 pub mod Matrix

@@ -1,10 +1,10 @@
 -- The matrix: rows of literals.
-use Rattle.std.specs.Prelude.{◌≡◌, ℕ, ◌+◌, ◌<◌, ◌≤◌, Bool, true, false, cond, ◌||◌, List, [], ◌∷◌, ◌++◌, length, drop, Some, None, Ok, Err, Option, Result, ◌==◌, nat_le, slice_index}
+use Rattle.std.specs.Prelude.{◌≡◌, ℕ, ◌+◌, ◌<◌, ◌≤◌, Bool, false, cond, ◌||◌, List, [], ◌∷◌, ◌++◌, length, map, Some, None, Ok, Err, Option, Result, ◌==◌, nat_le, slice_index}
 use Rattle.std.specs.List.{flat_map}
 use Rattle.refusal.specs.declared.Reason.{Reason}
 use Rattle.refusal.specs.declared.Reason.TheVariants.{VariableOutOfRange, VariableTwice, WrongRowCount, TooMany}
 use Rattle.formula.specs.declared.letter.Literal.{Literal}
-use Rattle.formula.specs.Cuts.{cut, last_end, climbs}
+use Rattle.formula.specs.Sections.{Section}
 
 -- whether the row names x
 abbrev pub names : List Literal → ℕ → Bool
@@ -57,24 +57,13 @@ add_literal l m = elim (forbidden l m) [
 abbrev pub end_row : MatrixModel → Result MatrixModel Reason
 end_row m = cond (complete m) (Err WrongRowCount) (Ok (with_row m))
 
--- ---- how a matrix is kept: the literals one after another, and where each complete row ends among them
+-- ---- how a matrix is kept: the rows as sections of the literals, whose heads tell nothing
 
-abbrev pub row_end : ℕ → ℕ
-row_end e = e
+abbrev pub as_row : Section (Unit {0}) Literal → List Literal
+as_row s = s.items
 
-abbrev pub as_row : ℕ → List Literal → List Literal
-as_row e row = row
-
-abbrev pub rows_in : List ℕ → List Literal → List (List Literal)
-rows_in ends literals = cut row_end as_row 0 ends literals
-
--- the row that is being read: what stands behind the complete ones
-abbrev pub begun_in : List ℕ → List Literal → List Literal
-begun_in ends literals = drop (last_end row_end 0 ends) literals
-
--- the rows do not overlap, and end within so many literals
-abbrev pub RowsLie : List ℕ → ℕ → Type 0
-RowsLie ends used = (climbs row_end 0 ends ≡ true) × (last_end row_end 0 ends ≤ used)
+abbrev pub rows_in : List (Section (Unit {0}) Literal) → List (List Literal)
+rows_in ss = map as_row ss
 
 -- Each variable has a mark: the number of the last row that named it. So a variable stands in the row that is being
 -- read, which is one more than there are rows, exactly if its mark is that row's number.

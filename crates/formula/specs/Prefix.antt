@@ -1,12 +1,11 @@
 -- The prefix: blocks of variables, each block with a letter.
-use Rattle.std.specs.Prelude.{◌≡◌, ℕ, ◌+◌, ◌<◌, ◌≤◌, Bool, true, false, cond, ◌&&◌, ◌||◌, List, [], ◌∷◌, ◌++◌, length, drop, Some, None, Ok, Err, Option, Result, ◌==◌, nat_le, slice_index}
+use Rattle.std.specs.Prelude.{◌≡◌, ℕ, ◌+◌, ◌<◌, Bool, true, false, cond, ◌&&◌, ◌||◌, List, [], ◌∷◌, ◌++◌, length, map, Some, None, Ok, Err, Option, Result, ◌==◌, nat_le, slice_index}
 use Rattle.std.specs.List.{flat_map}
 use Rattle.refusal.specs.declared.Reason.{Reason}
 use Rattle.refusal.specs.declared.Reason.TheVariants.{VariableOutOfRange, BoundTwice, BadBlock, TooMany, Unbound}
 use Rattle.formula.specs.declared.letter.Letter.{Letter}
 use Rattle.formula.specs.declared.letter.Letter.TheVariants.{Universal, Existential}
-use Rattle.formula.specs.declared.letter.BlockEnd.{BlockEnd}
-use Rattle.formula.specs.Cuts.{cut, last_end, climbs}
+use Rattle.formula.specs.Sections.{Section}
 
 -- a block: its letter, and its variables in the order of binding
 pub record Block : Type 0 where
@@ -97,24 +96,13 @@ end_block l p = elim (no_block l p) [
   | None ↦ cond (length p.begun == 0) (Err BadBlock) (Ok (with_block l p))
 ]
 
--- ---- how a prefix is kept: the variables one after another as they were bound, and where each complete block ends among them
+-- ---- how a prefix is kept: the blocks as sections of the variables
 
-abbrev pub block_end : BlockEnd → ℕ
-block_end e = e.end
+abbrev pub as_block : Section Letter ℕ → Block
+as_block s = record { letter = s.head; vars = s.items }
 
-abbrev pub as_block : BlockEnd → List ℕ → Block
-as_block e vars = record { letter = e.letter; vars = vars }
-
-abbrev pub blocks_in : List BlockEnd → List ℕ → List Block
-blocks_in ends vars = cut block_end as_block 0 ends vars
-
--- the block that is being read: what stands behind the complete ones
-abbrev pub begun_in : List BlockEnd → List ℕ → List ℕ
-begun_in ends vars = drop (last_end block_end 0 ends) vars
-
--- the complete blocks do not overlap, and the one that is being read begins where the last one ends
-abbrev pub BlocksLie : List BlockEnd → ℕ → ℕ → Type 0
-BlocksLie ends start bound = (climbs block_end 0 ends ≡ true) × (last_end block_end 0 ends ≡ start) × (start ≤ bound)
+abbrev pub blocks_in : List (Section Letter ℕ) → List Block
+blocks_in ss = map as_block ss
 
 -- the blocks with the one that is being read behind them, whatever its letter
 abbrev pub with_begun : List Block → List ℕ → List Block

@@ -2,6 +2,7 @@
 #![tactic(auto)]
 
 pub mod letter;
+mod limits;
 pub mod matrix;
 pub mod prefix;
-pub mod room;
+mod sections;

@@ -1,24 +1,118 @@
 // The rows of a formula, in room of their own.
-mod methods;
-mod sizes;
-
-ghost use Rattle.std.specs.Prelude.{◌≡◌, ◌≤◌, length, take};
-ghost use Rattle.formula.specs.Matrix.{MarksTold, RowsLie, begun_in};
+ghost use Rattle.std.specs.Prelude.{◌≡◌, ◌≤◌, min, length, OnErr};
+ghost use Rattle.std.specs.Option.{option_map};
+ghost use Rattle.std.specs.List.{slice_get};
+ghost use Rattle.formula.specs.Matrix.{MarksTold, add_literal, all_literals, complete, end_row, forbidden, no_rows};
+ghost use Rattle.formula.specs.Told.{told, unless};
 
 use crate::letter::Literal;
+use crate::limits::{MARKS, MOST_LITERALS, MOST_ROWS};
+use crate::sections::Sections;
+use refusal::Reason;
 
-// The literals stand one row after another, and `ends` has where each complete row ends among them. What stands behind
-// the complete rows is the row that is being read. `seen` has for each variable the number of the last row that named it.
+// The rows are sections of the literals. `seen` has for each variable the number of the last row that named it.
 #[derive(Drop)]
 pub struct Matrix {
     due: usize,
-    literals: [Literal; 16384],
-    used: usize,
-    ends: [usize; 4096],
-    rows: usize,
-    seen: [u16; 1025],
-    ghost arrays: { (length literals ≡ 16384) × (length ends ≡ 4096) × (length seen ≡ 1025) },
-    ghost sizes: { (due ≤ 4096) × (rows ≤ due) × (used ≤ 16384) },
-    ghost lie: { RowsLie (take rows ends) used },
-    ghost marks: { MarksTold seen rows (begun_in (take rows ends) (take used literals)) },
+    rows: Sections<(), Literal, MOST_ROWS, MOST_LITERALS>,
+    seen: [u16; MARKS],
+    ghost each_seen: { length seen ≡ 1025 },
+    ghost few: { (due ≤ 4096) × (length rows.complete ≤ due) },
+    ghost marks: { MarksTold seen (length rows.complete) rows.begun },
+}
+
+impl Matrix {
+    ghost use Rattle.formula.specs.View.{matrix_of};
+
+    // A matrix of no rows.
+    pub fn new() -> Self
+        ensures { matrix_of result ≡ no_rows 0 }
+    {
+        Matrix {
+            due: 0,
+            rows: Sections::new(),
+            seen: [0; MARKS],
+        }
+    }
+
+    // Starts from nothing; `due` rows are to come, 4,096 at most.
+    pub fn restart(&mut self, due: usize)
+        ensures { matrix_of self.new ≡ no_rows (min due 4096) }
+    {
+        self.due = due.min(MOST_ROWS);
+        self.rows.clear();
+        self.seen = [0; MARKS];
+    }
+
+    // How many complete rows there are.
+    pub fn rows(&self) -> usize
+        ensures { result ≡ length (matrix_of self.now).rows }
+    {
+        self.rows.len()
+    }
+
+    // Whether all rows that are due are there.
+    pub fn is_complete(&self) -> bool
+        ensures { result ≡ complete (matrix_of self.now) }
+    {
+        self.rows() >= self.due
+    }
+
+    // Whether a literal may stand in the row that is being read, room aside.
+    fn allows(&self, literal: Literal) -> Result<(), Reason>
+        ensures { result ≡ unless (forbidden literal (matrix_of self.now)) }
+    {
+        if self.is_complete() {
+            return Err(Reason::WrongRowCount);
+        }
+        let seen = self.seen.get(literal.variable as usize).copied();
+        let last = seen.ok_or(Reason::VariableOutOfRange)?;
+        if usize::from(last) == self.rows() + 1 {
+            return Err(Reason::VariableTwice);
+        }
+        Ok(())
+    }
+
+    // One literal more in the row that is being read, or a refusal that alters nothing.
+    #[tactic(auto, using(crate::proofs::Rows::no_room, crate::proofs::Rows::added, crate::proofs::Rows::literal_total, crate::proofs::Told::no_reason))]
+    pub fn add(&mut self, literal: Literal) -> Result<(), Reason>
+        ensures value { told result (matrix_of self.new) ≡ add_literal literal (matrix_of self.old) }
+        ensures same { OnErr result (self.new ≡ self.old) }
+    {
+        self.allows(literal)?;
+        if self.rows.all().len() == MOST_LITERALS {
+            return Err(Reason::TooMany);
+        }
+        let row = self.rows() + 1;
+        self.rows.push(literal);
+        self.seen[literal.variable as usize] = row as u16;
+        Ok(())
+    }
+
+    // The end of the row that is being read, or a refusal that alters nothing.
+    pub fn end_row(&mut self) -> Result<(), Reason>
+        ensures value { told result (matrix_of self.new) ≡ end_row (matrix_of self.old) }
+        ensures same { OnErr result (self.new ≡ self.old) }
+    {
+        if self.is_complete() {
+            return Err(Reason::WrongRowCount);
+        }
+        self.rows.end(());
+        Ok(())
+    }
+
+    // How many literals the complete rows have.
+    #[tactic(auto, using(crate::proofs::Rows::literals_kept))]
+    pub fn literals(&self) -> usize
+        ensures { result ≡ length (all_literals (matrix_of self.now).rows) }
+    {
+        self.rows.complete().len()
+    }
+
+    // The literals of row i, counted from 0. In constant time.
+    pub fn row(&self, i: usize) -> Option<&[Literal]>
+        ensures { option_map (λ s. s.now) result ≡ slice_get (matrix_of self.now).rows i }
+    {
+        self.rows.section(i)
+    }
 }

@@ -1,30 +1,19 @@
-use Rattle.std.proofs.Common.{Ok, sym, refl, ap, ◌∙◌, arith}
+use Rattle.std.proofs.Common.{◌≡◌, ◌∙◌, length, length-set}
+use Rattle.std.proofs.lemmas.List.{length-map}
 use Rattle.formula.specs.View.{matrix_of}
-use Rattle.formula.proofs.Kept.{row_count, literal_total}
-use Rattle.formula.proofs.Rows.{no_room, added, fitting, row_wanted}
+use Rattle.formula.specs.Matrix.{as_row}
+use Rattle.formula.proofs.Told.{no_reason}
+use Rattle.formula.proofs.Rows.{fitting, literal_marks}
 use Rattle.formula.proofs.matrix.Matrix.add.Goals as goal
 
-pub returns-then-self-eq-MOST_LITERALS : goal.returns-then-self-eq-MOST_LITERALS
-returns-then-self-eq-MOST_LITERALS c =
+pub invariant_of-self : goal.invariant_of-self
+invariant_of-self c =
     let m = c.args.self.now in
-    let fine = sym c.forbids.ensures ∙ c.in_default.is in
-    record { value = sym (no_room c.args.literal (matrix_of m) fine (omega (arith, literal_total m))); same = refl }
-
-pub put-requires : goal.put-requires
-put-requires c =
-    let m = c.args.self.now in
-    let fine = sym c.forbids.ensures ∙ c.in_default.is in
-    record {
-      free = omega (arith, c.if-self-eq-MOST_LITERALS.false);
-      fits = fitting c.args.literal (matrix_of m) fine;
-      more = omega (arith, row_wanted c.args.literal (matrix_of m) fine, row_count m);
-    }
-
-pub returns : goal.returns
-returns c =
-    let m = c.args.self.now in
-    let fine = sym c.forbids.ensures ∙ c.in_default.is in
-    record {
-      value = ap Ok c.put.ensures ∙ sym (added c.args.literal (matrix_of m) fine (omega (arith, literal_total m, c.if-self-eq-MOST_LITERALS.false)));
-      same = tt;
-    }
+    let l = c.args.literal in
+    let fits = fitting l (matrix_of m) (no_reason _ _ c.in_ok-allows.ensures) in
+    let row : c.rows-row.result ≡ length m.rows.complete = c.rows-row.ensures ∙ length-map m.rows.complete as_row in
+    rw c.push.ensures (record {
+      each_seen = simp length-set m.each_seen;
+      few = m.few;
+      marks = rw row (literal_marks m.seen _ m.rows.begun m.marks l m.each_seen fits);
+    })

@@ -1,0 +1,90 @@
+-- Sections as they are kept, as they and their items grow. Assumes nothing.
+use Rattle.std.proofs.Common.{◌≡◌, ℕ, zero, suc, ◌-◌, List, [], ◌∷◌, ◌++◌, length, get_or, take, drop, Some, Option, Bor, sym, refl, ap, ◌∙◌, ap₂, append_assoc, append-nil, arith}
+use Rattle.std.specs.List.{slice_get}
+use Rattle.std.specs.Option.{option_map}
+use Rattle.std.specs.Slice.{IsGetRangeResult}
+use Rattle.std.proofs.lemmas.List.{length-take-le, drop-append-le, drop_all, take_rest, take-append-drop, flat_map_more}
+use Rattle.std.proofs.lemmas.Option.{slice_get_within, get_or_from_slice_get}
+use Rattle.formula.specs.declared.sections.End.{End}
+use Rattle.formula.specs.Cuts.{cut, part, last_end}
+use Rattle.formula.specs.Ends.{end_of, as_section, sections_in, Lie}
+use Rattle.formula.specs.Sections.{Section, Sections, items_of, all_items, with_item, with_section}
+use Rattle.formula.proofs.Looked.{got_part}
+use Rattle.formula.proofs.Parts.{cut_grown, cut_push, take_cut, length_cut, joined_cut, nth_cut, last_push, climbs_push, climbs_front, climbs_at}
+
+module _ {H X : Type 0} where
+  pub items-with_item : (x : X) (s : Sections H X) → all_items (with_item x s) ≡ all_items s ++ x ∷ []
+  items-with_item x s = sym (append_assoc (items_of s.complete) s.begun (x ∷ []))
+
+  pub items-with_section : (h : H) (s : Sections H X) → all_items (with_section h s) ≡ all_items s
+  items-with_section h s =
+      append-nil (items_of (s.complete ++ record { head = h; items = s.begun } ∷ []))
+      ∙ sym (flat_map_more (λ (t : Section H X). t.items) [] s.complete (record { head = h; items = s.begun }))
+
+module _ {H X : Type 0} where
+  pub count_kept : (ends : List (End H)) (xs : List X) → length (sections_in ends xs).complete ≡ length ends
+  count_kept ends xs = length_cut end_of as_section 0 ends xs
+
+  head_in : (at : ℕ) (ends : List (End H)) (xs : List X) (i : ℕ)
+      → option_map (λ (s : Section H X). s.head) (slice_get (cut end_of as_section at ends xs) i) ≡ option_map (λ (e : End H). e.head) (slice_get ends i)
+  head_in at [] xs i = refl
+  head_in at (e ∷ es) xs zero = refl
+  head_in at (e ∷ es) xs (suc i) = head_in e.end es xs i
+
+  -- the head of a section
+  pub head_kept : (ends : List (End H)) (xs : List X) (i : ℕ)
+      → option_map (λ (s : Section H X). s.head) (slice_get (sections_in ends xs).complete i) ≡ option_map (λ (e : End H). e.head) (slice_get ends i)
+  head_kept ends xs i = head_in 0 ends xs i
+
+module _ {H X : Type 0} (ends : List (End H)) (xs : List X) (lie : Lie ends xs) where
+  -- the items of the first sections
+  pub front_kept : (i : ℕ) → items_of (take i (sections_in ends xs).complete) ≡ take (last_end end_of 0 (take i ends)) xs
+  front_kept i =
+      ap items_of (take_cut end_of as_section i 0 ends xs)
+      ∙ joined_cut end_of as_section (λ (s : Section H X). s.items) (λ _ _. refl) 0 (take i ends) xs (climbs_front end_of i 0 ends lie.0).0
+      ∙ ap (λ n. take n xs) {x = last_end end_of 0 (take i ends) - 0} {y = last_end end_of 0 (take i ends)} (omega arith)
+
+  -- where a section begins
+  pub start_kept : (i : ℕ) → last_end end_of 0 (take i ends) ≡ length (items_of (take i (sections_in ends xs).complete))
+  start_kept i = sym (ap length (front_kept i) ∙ length-take-le _ xs (omega (arith, (climbs_front end_of i 0 ends lie.0).1, lie.1)))
+
+  -- the items of the complete sections
+  pub complete_kept : items_of (sections_in ends xs).complete ≡ take (last_end end_of 0 ends) xs
+  complete_kept =
+      joined_cut end_of as_section (λ (s : Section H X). s.items) (λ _ _. refl) 0 ends xs lie.0
+      ∙ ap (λ n. take n xs) {x = last_end end_of 0 ends - 0} {y = last_end end_of 0 ends} (omega arith)
+
+  pub all_kept : all_items (sections_in ends xs) ≡ xs
+  all_kept = ap (λ l. l ++ drop (last_end end_of 0 ends) xs) complete_kept ∙ take-append-drop (last_end end_of 0 ends) xs
+
+  -- one item more
+  pub item_more : (x : X) → sections_in ends (xs ++ x ∷ []) ≡ with_item x (sections_in ends xs)
+  item_more x =
+      ap₂ (λ (ss : List (Section H X)) (b : List X). record { complete = ss; begun = b })
+      (cut_grown end_of as_section 0 ends xs (x ∷ []) lie.0 lie.1)
+      (drop-append-le (last_end end_of 0 ends) xs (x ∷ []) lie.1)
+
+  -- one section more
+  pub section_more : (h : H) → sections_in (ends ++ record { head = h; end = length xs } ∷ []) xs ≡ with_section h (sections_in ends xs)
+  section_more h =
+      ap₂ (λ (ss : List (Section H X)) (b : List X). record { complete = ss; begun = b })
+      (cut_push end_of as_section 0 ends (record { head = h; end = length xs }) xs
+      ∙ ap (λ r. cut end_of as_section 0 ends xs ++ record { head = h; items = r } ∷ []) (take_rest xs (last_end end_of 0 ends)))
+      (ap (λ n. drop n xs) (last_push end_of 0 ends (record { head = h; end = length xs })) ∙ drop_all (length xs) xs (omega arith))
+
+  pub section_lies : (h : H) → Lie (ends ++ record { head = h; end = length xs } ∷ []) xs
+  section_lies h =
+      (climbs_push end_of 0 ends (record { head = h; end = length xs }) lie.0 lie.1, omega (arith, last_push end_of 0 ends (record { head = h; end = length xs })))
+
+  -- the items of a section, as `get` finds them
+  pub section_kept : (i from : ℕ) (e : End H) (r : Option (Bor (List X))) → slice_get ends i ≡ Some e → from ≡ length (items_of (take i (sections_in ends xs).complete))
+      → IsGetRangeResult xs from e.end r
+      → option_map (λ (p : Bor (List X)). p.now) r ≡ option_map (λ (s : Section H X). s.items) (slice_get (sections_in ends xs).complete i)
+  section_kept i from e r there start found =
+      let low = slice_get_within ends i e there in
+      let is : get_or ends i e ≡ e = get_or_from_slice_get ends i e e there in
+      let up = climbs_at end_of 0 ends i e lie.0 low in
+      let begins : last_end end_of 0 (take i ends) ≡ from = start_kept i ∙ sym start in
+      got_part xs from e.end r (omega (arith, begins, up.0, ap end_of is)) (omega (arith, up.1, lie.1, ap end_of is)) found
+      ∙ ap₂ (λ (n : ℕ) (d : End H). Some (part n d.end xs)) (sym begins) (sym is)
+      ∙ sym (ap (option_map (λ (s : Section H X). s.items)) (nth_cut end_of as_section 0 ends xs i e low))

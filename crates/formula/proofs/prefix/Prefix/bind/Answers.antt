@@ -1,0 +1,20 @@
+use Rattle.std.proofs.Common.{arith, length-set}
+use Rattle.formula.proofs.Told.{no_reason}
+use Rattle.formula.proofs.Kept.{place_left, range_kept, told_kept, count_kept}
+use Rattle.formula.proofs.prefix.Prefix.bind.Goals as goal
+
+pub push-requires : goal.push-requires
+push-requires c = (omega arith, place_left c.args.self.now c.args.variable (no_reason _ _ c.in_ok-bindable.ensures))
+
+pub invariant_of-self : goal.invariant_of-self
+invariant_of-self c =
+    let p = c.args.self.now in
+    let x = c.args.variable in
+    let fine = no_reason _ _ c.in_ok-bindable.ensures in
+    rw c.push.ensures (record {
+      each_level = simp length-set p.each_level;
+      few = p.few;
+      range = range_kept p x fine;
+      told = told_kept p x fine _ c.blocks-level.ensures;
+      count = count_kept p x fine _ (λ e. omega arith);
+    })

@@ -1,0 +1,7 @@
+use Rattle.formula.proofs.SectionLemmas.{section_lies}
+use Rattle.formula.proofs.sections.Sections.end.Goals as goal
+
+pub invariant_of-self : goal.invariant_of-self
+invariant_of-self g c =
+    let s = c.self.inside in
+    rw c.push.ensures.items (rw c.len-end.ensures.value (section_lies s.ends.items s.items.items c.self.invariant c.args.head))
