@@ -121,7 +121,7 @@ where
     }
 
     // The items of the section i, counted from 0. In constant time.
-    #[tactic(auto, using(crate::proofs::SectionLemmas::count_kept, crate::proofs::SectionLemmas::section_kept, crate::proofs::Looked::got))]
+    #[tactic(auto, using(crate::proofs::SectionLemmas::count_kept))]
     pub(crate) fn section(&self, i: usize) -> Option<&[X]>
         ensures { option_map (λ s. s.now) result ≡ option_map (λ s. s.items) (slice_get self.now.complete i) }
     {
