@@ -1,14 +1,11 @@
 -- Blocks as they are kept: levels, one variable more, one block more. Assumes nothing.
-use Rattle.std.proofs.Common.{◌≡◌, ℕ, zero, suc, ◌+◌, ◌-◌, ◌<◌, ◌≤◌, Bool, true, false, cond, not, ◌||◌, eqb, leb, List, [], ◌∷◌, ◌++◌, length, get_or, set, replicate, Some, None, Ok, Err, Option, Result, sym, refl, ap, ◌∙◌, ⊎_elim, arith}
+use Rattle.std.proofs.Common.{◌≡◌, ℕ, zero, suc, ◌+◌, ◌-◌, ◌<◌, ◌≤◌, true, false, cond, not, ◌||◌, eqb, List, [], ◌∷◌, ◌++◌, length, get_or, set, replicate, None, Ok, sym, refl, ap, ◌∙◌, ⊎_elim, arith}
 use Rattle.std.specs.List.{slice_get}
 use Rattle.std.proofs.Math.Bool.{or_assoc}
 use Rattle.std.proofs.lemmas.Bool.Decides.{nat_tests}
-use Rattle.std.proofs.lemmas.Option.{none-some}
 use Rattle.std.proofs.lemmas.List.{get_or-replicate, get_or-set_same, get_or-set_other, length-set, flat_map_more}
-use Rattle.std.proofs.lemmas.Bool.{cases_eq, eq-eqb, eqb-true, ne_eqb, not-true, not-false, false≢true, or_left, or_right, or_parts, or_from, both_ways, cond_both, and_parts, and_from, cond-true, cond-false, leb-false, le-leb, lt-leb}
+use Rattle.std.proofs.lemmas.Bool.{cases_eq, eqb-true, false≢true, and_from}
 use Rattle.std.specs.Option.{option_map, option_map_or}
-use Rattle.refusal.specs.declared.Reason.{Reason}
-use Rattle.refusal.specs.declared.Reason.TheVariants.{VariableOutOfRange, BoundTwice, BadBlock, TooMany}
 use Rattle.formula.specs.declared.letter.Letter.{Letter}
 use Rattle.formula.specs.declared.letter.Letter.TheVariants.{Universal}
 use Rattle.formula.specs.Sections.{Section, items_of}
@@ -20,27 +17,27 @@ pub has_append : (xs ys : List ℕ) (x : ℕ) → has_var (xs ++ ys) x ≡ (has_
 has_append [] ys x = refl
 has_append (z ∷ xs) ys x = ap (λ b. eqb z x || b) (has_append xs ys x) ∙ sym (or_assoc (eqb z x) (has_var xs x) (has_var ys x))
 
-pub has_push_same : (xs : List ℕ) (x : ℕ) → has_var (xs ++ x ∷ []) x ≡ true
+has_push_same : (xs : List ℕ) (x : ℕ) → has_var (xs ++ x ∷ []) x ≡ true
 has_push_same xs x = grind (arith, nat_tests, has_append)
 
-pub has_push_other : (xs : List ℕ) (y x : ℕ) → (y ≡ x → ⊥) → has_var (xs ++ y ∷ []) x ≡ has_var xs x
+has_push_other : (xs : List ℕ) (y x : ℕ) → (y ≡ x → ⊥) → has_var (xs ++ y ∷ []) x ≡ has_var xs x
 has_push_other xs y x other = grind (arith, nat_tests, has_append)
 
 -- ---- levels
 
 -- a variable has level 0 exactly if no block has it
-pub level_zero : (l : ℕ) (bs : List Block) (x : ℕ) → 1 ≤ l → eqb (level_from l bs x) 0 ≡ not (has_var (order bs) x)
+level_zero : (l : ℕ) (bs : List Block) (x : ℕ) → 1 ≤ l → eqb (level_from l bs x) 0 ≡ not (has_var (order bs) x)
 level_zero l [] x low = refl
 level_zero l (b ∷ bs) x low = grind (arith, nat_tests, level_zero (l + 1) bs x (omega arith), has_append b.vars (order bs) x)
 
 -- the level of a variable in one block more
-pub level_push : (l : ℕ) (bs : List Block) (b : Block) (x : ℕ)
+level_push : (l : ℕ) (bs : List Block) (b : Block) (x : ℕ)
     → level_from l (bs ++ b ∷ []) x ≡ cond (has_var (order bs) x) (level_from l bs x) (cond (has_var b.vars x) (l + length bs) 0)
 level_push l [] b x = grind arith
 level_push l (c ∷ bs) b x = grind (arith, nat_tests, level_push (l + 1) bs b x, has_append c.vars (order bs) x)
 
 -- a level counts only complete blocks where no further one is begun
-pub level_closed : (bs : List Block) (x : ℕ) → level (with_begun bs []) x ≡ level bs x
+level_closed : (bs : List Block) (x : ℕ) → level (with_begun bs []) x ≡ level bs x
 level_closed bs x = grind (arith, nat_tests, level_push 1 bs (record { letter = Universal; vars = [] }) x, level_zero 1 bs x (omega arith))
 
 -- ---- what is out of range, is not bound
@@ -99,7 +96,7 @@ mark_left ms n x size low high first there =
 
 -- ---- one variable more, and one block more
 
-module _ (bs : List Block) (begun : List ℕ) (levels : List ℕ) (told : LevelsTold levels bs begun) where
+module _ (levels : List ℕ) (bs : List Block) (begun : List ℕ) (told : LevelsTold levels bs begun) where
   pub var_levels : (x : ℕ) → length levels ≡ 1025 → x < 1025 → has_var (order bs ++ begun) x ≡ false
       → LevelsTold (set levels x (length bs + 1)) bs (begun ++ x ∷ [])
   var_levels x size fits new z h =
@@ -169,7 +166,7 @@ module _ (bs : List Block) (begun : List ℕ) (x : ℕ) where
   mark_high high = grind (arith, nat_tests, told_by, level_none bs x, level_within 1 bs x)
 
 -- a level of 0 says that nobody owns the variable; any other names its block, which has the owner's letter
-pub owner_none : (bs : List Block) (x : ℕ) → has_var (order bs) x ≡ false → owner bs x ≡ None
+owner_none : (bs : List Block) (x : ℕ) → has_var (order bs) x ≡ false → owner bs x ≡ None
 owner_none [] x out = refl
 owner_none (b ∷ bs) x out = grind (arith, nat_tests, owner_none bs x, has_append b.vars (order bs) x)
 

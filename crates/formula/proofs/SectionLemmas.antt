@@ -1,27 +1,28 @@
 -- Sections as they are kept, as they and their items grow. Assumes nothing.
-use Rattle.std.proofs.Common.{◌≡◌, ℕ, zero, suc, ◌-◌, List, [], ◌∷◌, ◌++◌, length, get_or, take, drop, Some, Option, Bor, sym, refl, ap, ◌∙◌, ap₂, append_assoc, append-nil, arith}
+use Rattle.std.proofs.Common.{◌≡◌, ℕ, zero, suc, ◌-◌, true, List, [], ◌∷◌, ◌++◌, length, get_or, take, drop, Some, Option, Bor, sym, refl, ap, ◌∙◌, ap₂, append_assoc, append-nil, arith}
 use Rattle.std.specs.List.{slice_get}
 use Rattle.std.specs.Option.{option_map}
 use Rattle.std.specs.Slice.{IsGetRangeResult}
 use Rattle.std.proofs.lemmas.List.{length-take-le, drop-append-le, drop_all, take_rest, take-append-drop, flat_map_more}
 use Rattle.std.proofs.lemmas.Option.{slice_get_within, get_or_from_slice_get}
 use Rattle.formula.specs.declared.sections.End.{End}
-use Rattle.formula.specs.Cuts.{cut, part, last_end}
-use Rattle.formula.specs.Ends.{end_of, as_section, sections_in, Lie}
+use Rattle.formula.specs.Cuts.{cut, part, last_end, climbs}
+use Rattle.formula.specs.Ends.{end_of, as_section, sections_in, SectionsLie}
 use Rattle.formula.specs.Sections.{Section, Sections, items_of, all_items, with_item, with_section}
 use Rattle.formula.proofs.Looked.{got_part}
 use Rattle.formula.proofs.Parts.{cut_grown, cut_push, take_cut, length_cut, joined_cut, nth_cut, last_push, climbs_push, climbs_front, climbs_at}
 
 module _ {H X : Type 0} where
-  pub items-with_item : (x : X) (s : Sections H X) → all_items (with_item x s) ≡ all_items s ++ x ∷ []
-  items-with_item x s = sym (append_assoc (items_of s.complete) s.begun (x ∷ []))
+  pub all_items-with_item : (x : X) (s : Sections H X) → all_items (with_item x s) ≡ all_items s ++ x ∷ []
+  all_items-with_item x s = sym (append_assoc (items_of s.complete) s.begun (x ∷ []))
 
-  pub items-with_section : (h : H) (s : Sections H X) → all_items (with_section h s) ≡ all_items s
-  items-with_section h s =
+  pub all_items-with_section : (h : H) (s : Sections H X) → all_items (with_section h s) ≡ all_items s
+  all_items-with_section h s =
       append-nil (items_of (s.complete ++ record { head = h; items = s.begun } ∷ []))
       ∙ sym (flat_map_more (λ (t : Section H X). t.items) [] s.complete (record { head = h; items = s.begun }))
 
-module _ {H X : Type 0} where
+  -- ---- sections as they are kept
+
   pub count_kept : (ends : List (End H)) (xs : List X) → length (sections_in ends xs).complete ≡ length ends
   count_kept ends xs = length_cut end_of as_section 0 ends xs
 
@@ -36,23 +37,25 @@ module _ {H X : Type 0} where
       → option_map (λ (s : Section H X). s.head) (slice_get (sections_in ends xs).complete i) ≡ option_map (λ (e : End H). e.head) (slice_get ends i)
   head_kept ends xs i = head_in 0 ends xs i
 
-module _ {H X : Type 0} (ends : List (End H)) (xs : List X) (lie : Lie ends xs) where
-  -- the items of the first sections
-  pub front_kept : (i : ℕ) → items_of (take i (sections_in ends xs).complete) ≡ take (last_end end_of 0 (take i ends)) xs
-  front_kept i =
-      ap items_of (take_cut end_of as_section i 0 ends xs)
-      ∙ joined_cut end_of as_section (λ (s : Section H X). s.items) (λ _ _. refl) 0 (take i ends) xs (climbs_front end_of i 0 ends lie.0).0
-      ∙ ap (λ n. take n xs) {x = last_end end_of 0 (take i ends) - 0} {y = last_end end_of 0 (take i ends)} (omega arith)
+  joined : (ends : List (End H)) (xs : List X) → climbs end_of 0 ends ≡ true → items_of (sections_in ends xs).complete ≡ take (last_end end_of 0 ends) xs
+  joined ends xs up =
+      joined_cut end_of as_section (λ (s : Section H X). s.items) (λ _ _. refl) 0 ends xs up
+      ∙ ap (λ n. take n xs) {x = last_end end_of 0 ends - 0} {y = last_end end_of 0 ends} (omega arith)
 
+module _ {H X : Type 0} (ends : List (End H)) (xs : List X) (lie : SectionsLie ends xs) where
   -- where a section begins
   pub start_kept : (i : ℕ) → last_end end_of 0 (take i ends) ≡ length (items_of (take i (sections_in ends xs).complete))
-  start_kept i = sym (ap length (front_kept i) ∙ length-take-le _ xs (omega (arith, (climbs_front end_of i 0 ends lie.0).1, lie.1)))
+  start_kept i =
+      let front = climbs_front end_of i 0 ends lie.0 in
+      sym
+      (
+      ap (λ ss. length (items_of ss)) (take_cut end_of as_section i 0 ends xs) ∙ ap length (joined (take i ends) xs front.0)
+      ∙ length-take-le _ xs (omega (arith, front.1, lie.1))
+      )
 
   -- the items of the complete sections
   pub complete_kept : items_of (sections_in ends xs).complete ≡ take (last_end end_of 0 ends) xs
-  complete_kept =
-      joined_cut end_of as_section (λ (s : Section H X). s.items) (λ _ _. refl) 0 ends xs lie.0
-      ∙ ap (λ n. take n xs) {x = last_end end_of 0 ends - 0} {y = last_end end_of 0 ends} (omega arith)
+  complete_kept = joined ends xs lie.0
 
   pub all_kept : all_items (sections_in ends xs) ≡ xs
   all_kept = ap (λ l. l ++ drop (last_end end_of 0 ends) xs) complete_kept ∙ take-append-drop (last_end end_of 0 ends) xs
@@ -72,7 +75,7 @@ module _ {H X : Type 0} (ends : List (End H)) (xs : List X) (lie : Lie ends xs) 
       ∙ ap (λ r. cut end_of as_section 0 ends xs ++ record { head = h; items = r } ∷ []) (take_rest xs (last_end end_of 0 ends)))
       (ap (λ n. drop n xs) (last_push end_of 0 ends (record { head = h; end = length xs })) ∙ drop_all (length xs) xs (omega arith))
 
-  pub section_lies : (h : H) → Lie (ends ++ record { head = h; end = length xs } ∷ []) xs
+  pub section_lies : (h : H) → SectionsLie (ends ++ record { head = h; end = length xs } ∷ []) xs
   section_lies h =
       (climbs_push end_of 0 ends (record { head = h; end = length xs }) lie.0 lie.1, omega (arith, last_push end_of 0 ends (record { head = h; end = length xs })))
 

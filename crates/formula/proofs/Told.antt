@@ -1,5 +1,5 @@
 -- What an answer tells of the reason behind it. Assumes nothing.
-use Rattle.std.proofs.Common.{◌≡◌, Some, None, Ok, Err, Option, refl}
+use Rattle.std.proofs.Common.{◌≡◌, Some, None, Ok, Option, refl}
 use Rattle.formula.specs.Told.{unless}
 
 module _ {R : Type 0} where
@@ -7,8 +7,3 @@ module _ {R : Type 0} where
   pub no_reason : (o : Option R) (u : Unit {0}) → Ok u ≡ unless o → o ≡ None
   no_reason None u said = refl
   no_reason (Some r) u said = cc
-
-  -- an answer no names the reason
-  pub the_reason : (o : Option R) (r : R) → Err r ≡ unless o → o ≡ Some r
-  the_reason None r said = cc
-  the_reason (Some s) r said = cc

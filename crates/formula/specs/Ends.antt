@@ -15,5 +15,5 @@ module _ {H X : Type 0} where
   sections_in ends xs = record { complete = cut end_of as_section 0 ends xs; begun = drop (last_end end_of 0 ends) xs }
 
   -- the complete sections do not overlap, and end within the items
-  abbrev pub Lie : List (End H) → List X → Type 0
-  Lie ends xs = (climbs end_of 0 ends ≡ true) × (last_end end_of 0 ends ≤ length xs)
+  abbrev pub SectionsLie : List (End H) → List X → Type 0
+  SectionsLie ends xs = (climbs end_of 0 ends ≡ true) × (last_end end_of 0 ends ≤ length xs)

@@ -1,4 +1,4 @@
-// Letters, blocks and literals.
+// Letters and literals. The default of each stands where room is not in use.
 
 // The letter of a block, and so the owner of its variables: `a` is the universal side, `e` the existential one.
 #[derive(Clone, Copy, Debug, Default, PartialEq)]

@@ -7,5 +7,5 @@ pub(crate) const MOST_ROWS: usize = 4096;
 
 pub(crate) const MOST_LITERALS: usize = 16384;
 
-// A variable's number is a place among so many marks: 0 to the largest number.
+// How many marks there are: one for each number of a variable, and one for 0, which no variable has.
 pub(crate) const MARKS: usize = 1025;

@@ -74,7 +74,7 @@ impl Matrix {
     }
 
     // One literal more in the row that is being read, or a refusal that alters nothing.
-    #[tactic(auto, using(crate::proofs::Rows::no_room, crate::proofs::Rows::added, crate::proofs::Rows::literal_total, crate::proofs::Told::no_reason))]
+    #[tactic(auto, using(crate::proofs::Rows::literal_total))]
     pub fn add(&mut self, literal: Literal) -> Result<(), Reason>
         ensures value { told result (matrix_of self.new) ≡ add_literal literal (matrix_of self.old) }
         ensures same { OnErr result (self.new ≡ self.old) }
@@ -85,6 +85,7 @@ impl Matrix {
         }
         let row = self.rows() + 1;
         self.rows.push(literal);
+        // A row's number fits, since no matrix has more than 4,096 rows.
         self.seen[literal.variable as usize] = row as u16;
         Ok(())
     }

@@ -120,6 +120,7 @@ impl Prefix {
         self.bindable(variable)?;
         let level = self.blocks() + 1;
         self.blocks.push(variable);
+        // A level fits, since no prefix has more than 64 blocks.
         self.levels[variable as usize] = level as u8;
         Ok(())
     }

@@ -23,26 +23,25 @@ pub(crate) struct Sections<H, X, const MOST: usize, const ROOM: usize> {
 }
 
 impl<H, X, const MOST: usize, const ROOM: usize> Model for Sections<H, X, MOST, ROOM> {
-    ghost use Rattle.formula.specs.Sections.{Sections as Model, sections_code};
+    ghost use Rattle.formula.specs.Sections.{Sections as Content, sections_code};
 
-    ghost Value = { Model H X };
+    ghost Value = { Content H X };
 
     ghost coded = { sections_code H.code X.code };
 
-    ghost use Rattle.formula.specs.Ends.{Lie, sections_in};
+    ghost use Rattle.formula.specs.Ends.{SectionsLie, sections_in};
 
     ghost view = { λ s. sections_in s.ends.items s.items.items };
 
-    ghost invariant = { λ s. Lie s.ends.items s.items.items };
+    ghost invariant = { λ s. SectionsLie s.ends.items s.items.items };
 }
 
-impl<H: Default + Copy, X: Default + Copy, const MOST: usize, const ROOM: usize> Sections<
-    H,
-    X,
-    MOST,
-    ROOM,
-> {
-    // No section is complete, and the begun one has no item yet.
+impl<H, X, const MOST: usize, const ROOM: usize> Sections<H, X, MOST, ROOM>
+where
+    H: Copy + Default,
+    X: Copy + Default,
+{
+    // No section is complete, and the begun one has no item.
     pub(crate) fn new() -> Self
         ensures { result ≡ empty }
     {
@@ -52,7 +51,7 @@ impl<H: Default + Copy, X: Default + Copy, const MOST: usize, const ROOM: usize>
         }
     }
 
-    // The same again.
+    // Back to no section and no item.
     pub(crate) fn clear(&mut self)
         ensures { self.new ≡ empty }
     {
@@ -122,7 +121,7 @@ impl<H: Default + Copy, X: Default + Copy, const MOST: usize, const ROOM: usize>
     }
 
     // The items of the section i, counted from 0. In constant time.
-    #[tactic(auto, using(crate::proofs::SectionLemmas::count_kept, crate::proofs::SectionLemmas::section_kept, crate::proofs::Looked::got))]
+    #[tactic(auto, using(crate::proofs::SectionLemmas::count_kept))]
     pub(crate) fn section(&self, i: usize) -> Option<&[X]>
         ensures { option_map (λ s. s.now) result ≡ option_map (λ s. s.items) (slice_get self.now.complete i) }
     {

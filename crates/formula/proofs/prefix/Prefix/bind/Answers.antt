@@ -1,6 +1,6 @@
 use Rattle.std.proofs.Common.{arith, length-set}
 use Rattle.formula.proofs.Told.{no_reason}
-use Rattle.formula.proofs.Kept.{place_left, range_kept, told_kept, count_kept}
+use Rattle.formula.proofs.Kept.{place_left, range_kept, told_kept, marked_kept}
 use Rattle.formula.proofs.prefix.Prefix.bind.Goals as goal
 
 pub push-requires : goal.push-requires
@@ -16,5 +16,5 @@ invariant_of-self c =
       few = p.few;
       range = range_kept p x fine;
       told = told_kept p x fine _ c.blocks-level.ensures;
-      count = count_kept p x fine _ (λ e. omega arith);
+      count = marked_kept p x fine _ (λ e. omega arith);
     })
