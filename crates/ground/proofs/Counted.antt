@@ -1,13 +1,13 @@
 -- Two lists of literals, no variable twice in either: if one is as long as the other and lies in it, they have the same literals. Assumes nothing.
-use Rattle.std.proofs.Common.{◌≡◌, ℕ, suc, ◌≤◌, Bool, true, false, cond, not, ◌&&◌, ◌||◌, eqb, List, [], ◌∷◌, length, sym, refl, ap, ◌∙◌, inl, inr, ⊎_elim, arith}
+use Rattle.std.proofs.Common.{◌≡◌, ℕ, suc, ◌≤◌, Bool, true, false, cond, not, ◌&&◌, ◌||◌, eqb, List, [], ◌∷◌, length, Some, None, Option, sym, refl, ap, ◌∙◌, inl, inr, ⊎_elim, arith}
 use Rattle.std.proofs.lemmas.Bool.{and_parts, and_from, and_left, and_right, or_cases, or_parts, or_left, or_right, eqb-true, eqb-false, eq-eqb, ne_eqb, cond-true, cond-false, cases_eq, cases_Bool, not-true, both_ways, false≢true}
 use Rattle.formula.specs.declared.letter.Literal.{Literal}
 use Rattle.formula.specs.Matrix.{names}
 use Rattle.formula.specs.Formula.{row_distinct}
 use Rattle.game.specs.Leaves.{each_literal}
 use Rattle.game.specs.Grounds.{some_literal, same_sign, same_literal, has_literal}
-use Rattle.ground.specs.Codes.{code, coded}
-use Rattle.ground.proofs.Codes.{has_coded}
+use Rattle.ground.specs.Signs.{is_sign}
+use Rattle.ground.proofs.LeafSigns.{sign_in, has_signed}
 
 -- the list without its literal of the variable x
 without : ℕ → List Literal → List Literal
@@ -75,17 +75,19 @@ beside (k ∷ row) ls l once there new all =
     let apart = or_parts (same_literal l k) (some_literal (same_literal l) row) new in
     and_from _ _ (stays ls l.variable k (λ same. both_ways (same_literal l k) apart.0 (like k same both.0)) both.0) (beside row ls l once there apart.1 both.1)
   where
-    signs : (a b : Bool) → code a ≡ code b → same_sign a b ≡ true
-    signs true true e = refl
-    signs true false e = absurd (omega arith)
-    signs false true e = absurd (omega arith)
-    signs false false e = refl
+    signs : (sign : Option Bool) (a b : Bool) → is_sign sign a ≡ true → is_sign sign b ≡ true → same_sign a b ≡ true
+    signs None a b one two = absurd (false≢true one)
+    signs (Some s) true true one two = refl
+    signs (Some s) false false one two = refl
+    signs (Some true) true false one two = absurd (false≢true two)
+    signs (Some false) true false one two = absurd (false≢true one)
+    signs (Some true) false true one two = absurd (false≢true one)
+    signs (Some false) false true one two = absurd (false≢true two)
 
     like : (k : Literal) → k.variable ≡ l.variable → has_literal ls k ≡ true → same_literal l k ≡ true
     like k same has =
-        let one = eqb-true _ _ (sym (has_coded ls k once) ∙ has) in
-        let two = eqb-true _ _ (sym (has_coded ls l once) ∙ there) in
-        and_from _ _ (eq-eqb _ _ (sym same)) (signs l.positive k.positive (sym two ∙ ap (coded ls) (sym same) ∙ one))
+        and_from _ _ (eq-eqb _ _ (sym same))
+        (signs (sign_in ls l.variable) l.positive k.positive (sym (has_signed ls l once) ∙ there) (ap (λ x. is_sign (sign_in ls x) k.positive) (sym same) ∙ sym (has_signed ls k once) ∙ has))
 
 has_first : (l : Literal) (ls : List Literal) → has_literal (l ∷ ls) l ≡ true
 unfolding some_literal
