@@ -10,7 +10,7 @@ use formula::letter::{Letter, Literal};
 // A ground stands for one side in the game of one sealed formula: it says which leaves a derivation may start from, and which
 // finished plays are won. Its law: every full play that meets an admitted leaf is won.
 pub trait Ground {
-    // Own side's letter.
+    // Own side's letter: `G::OWN` in code, `G.OWN` in clauses.
     const OWN: Letter;
 
     ghost OWN: { Letter };

@@ -32,19 +32,21 @@ impl Signs {
     }
 
     // Whether the literal stands in the leaf.
-    pub(crate) fn has(&self, literal: Literal) -> bool
+    fn has(&self, literal: Literal) -> bool
         ensures { result ≡ has_sign self.now literal }
     {
         let sign = self.by_variable.get(literal.variable as usize);
         sign.copied().flatten() == Some(literal.positive)
     }
 
+    // Whether every literal of the row stands in it.
     pub(crate) fn have_all(&self, row: &[Literal]) -> bool
         ensures { result ≡ each_literal (has_sign self.now) row.now }
     {
         row.iter().all(|literal| self.has(*literal))
     }
 
+    // Whether some literal of the row stands in it.
     pub(crate) fn have_some(&self, row: &[Literal]) -> bool
         ensures { result ≡ some_literal (has_sign self.now) row.now }
     {
