@@ -1,14 +1,21 @@
--- Bound variables are those that a block owns. Assumes nothing.
-use Rattle.std.proofs.Common.{◌≡◌, ℕ, Bool, true, false, cond, ◌||◌, List, [], ◌∷◌, is_some, Some, Option, sym, refl, ap, ◌∙◌}
-use Rattle.formula.specs.declared.letter.Letter.{Letter}
+-- Bound variables: those that a block owns, and low ones. Assumes nothing.
+use Rattle.std.proofs.Common.{◌≡◌, ℕ, zero, suc, ◌<◌, true, List, [], ◌∷◌, length, get_or, is_some, refl, arith}
+use Rattle.std.proofs.lemmas.Grind.{common_steps}
+use Rattle.formula.specs.declared.letter.Literal.{Literal}
 use Rattle.formula.specs.Prefix.{Block, has_var, order, owner}
-use Rattle.formula.proofs.Blocks.{has_append}
+use Rattle.formula.specs.Formula.{Formula, row_bound, well_formed, WellFormed}
+use Rattle.formula.proofs.Blocks.{has_append, none_out_of_range}
+use Rattle.formula.proofs.WellFormed.{tested}
 
 pub owner_some_is : (bs : List Block) (x : ℕ) → is_some (owner bs x) ≡ has_var (order bs) x
 owner_some_is [] x = refl
-owner_some_is (b ∷ bs) x =
-    by (has_var b.vars x) (owner bs x) ∙ ap (λ t. has_var b.vars x || t) (owner_some_is bs x) ∙ sym (has_append b.vars (order bs) x)
+owner_some_is (b ∷ bs) x = grind (arith, common_steps, owner_some_is bs x, has_append b.vars (order bs) x)
+
+-- a literal of a bound variable has a low variable
+pub low_at : (F : Formula) → well_formed F ≡ true → (ls : List Literal) (i : ℕ) (d : Literal) → row_bound (order F.blocks) ls ≡ true → i < length ls → (get_or ls i d).variable < 1025
+low_at F whole [] i d bound more = absurd (omega arith)
+low_at F whole (l ∷ ls) zero d bound more = grind (arith, common_steps, good.variables, none_out_of_range F.size (order F.blocks) l.variable good.in_size)
   where
-    by : (t : Bool) (o : Option Letter) → is_some (cond t (Some b.letter) o) ≡ (t || is_some o)
-    by true o = refl
-    by false o = refl
+    good : WellFormed F
+    good = tested F whole
+low_at F whole (l ∷ ls) (suc i) d bound more = grind (arith, common_steps, low_at F whole ls i d)

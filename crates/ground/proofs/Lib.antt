@@ -1,5 +1,5 @@
 mod Bound
-mod Codes
 mod Counted
-mod Turns
+mod LeafSigns
 mod Same
+mod Tests

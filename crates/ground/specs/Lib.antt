@@ -1,2 +1,3 @@
 pub mod Admits
-pub mod Codes
+pub mod Rows
+pub mod Signs

@@ -1,33 +1,17 @@
 // The clause ground: own side is `a`, a play is won when some row is false, and a leaf is admitted exactly where some row has the
 // same literals, in any order.
 ghost use Rattle.std.specs.Prelude.{◌≡◌};
+ghost use Rattle.formula.specs.declared.letter.Letter.TheVariants.{Universal};
 ghost use Rattle.game.specs.Grounds.{clause_ground};
-ghost use Rattle.ground.specs.Codes.{same_marked};
 ghost use Rattle.game.proofs.Grounds.{clause_law};
 ghost use Rattle.std.proofs.Common.{rules};
 
 use crate::ground::{Ground, JudgingGround};
-use crate::leaves::{all_marked, is_leaf, marks_of};
-use crate::plays::FalseIn;
-use crate::rows::{RowTest, some_row};
-use crate::side::UniversalSide;
+use crate::plays::row_is_false;
+use crate::rows::Rows;
+use crate::signs::Signs;
 use crate::whole::Whole;
-use formula::letter::Literal;
-
-// The rows with the literals that are marked, and no others: as many, and each of them marked.
-#[derive(Clone, Copy)]
-struct SameAs<'a> {
-    marks: &'a [u8],
-    count: usize,
-}
-
-impl<'a> RowTest for SameAs<'a> {
-    ghost test = { λ t row. same_marked t.marks.now t.count row };
-
-    fn passes(&self, row: &[Literal]) -> bool {
-        row.len() == self.count && all_marked(self.marks, row)
-    }
-}
+use formula::letter::{Letter, Literal};
 
 #[derive(Clone, Copy)]
 pub struct Clauses<F> {
@@ -35,9 +19,9 @@ pub struct Clauses<F> {
 }
 
 impl<F: Whole> Ground for Clauses<F> {
-    type Own = UniversalSide;
+    const OWN: Letter = Letter::Universal;
 
-    const OWN: UniversalSide = UniversalSide;
+    ghost OWN = { Universal };
 
     ghost meaning = { λ g. clause_ground (F.Whole.formula g.formula) };
 
@@ -51,22 +35,17 @@ impl<F: Whole> Ground for Clauses<F> {
         self.formula.variables()
     }
 
-    // One pass over the leaf and the rows.
+    // One pass over the leaf and the rows. A row with as many literals as the leaf, each of them the leaf's, has the leaf's literals.
     fn admit(&self, leaf: &[Literal]) -> bool {
-        if !is_leaf(&self.formula, leaf) {
+        let Some(signs) = Signs::of_leaf(&self.formula, leaf) else {
             return false;
-        }
-        let marks = marks_of(leaf);
-        let test = SameAs {
-            marks: &marks,
-            count: leaf.len(),
         };
-        some_row(&self.formula, &test)
+        Rows::of(&self.formula).any(|row| row.len() == leaf.len() && signs.have_all(row))
     }
 }
 
 impl<F: Whole> JudgingGround for Clauses<F> {
     fn judge(&self, play: &[u8]) -> bool {
-        some_row(&self.formula, &FalseIn { play })
+        Rows::of(&self.formula).any(|row| row_is_false(play, row))
     }
 }

@@ -1,32 +1,17 @@
 // The cube ground: own side is `e`, a play is won when no row is false, and a leaf is admitted exactly where every row has one of its
 // literals.
-ghost use Rattle.std.specs.Prelude.{◌≡◌, not};
-ghost use Rattle.game.specs.Grounds.{cube_ground, some_literal};
-ghost use Rattle.ground.specs.Codes.{marked_as};
+ghost use Rattle.std.specs.Prelude.{◌≡◌};
+ghost use Rattle.formula.specs.declared.letter.Letter.TheVariants.{Existential};
+ghost use Rattle.game.specs.Grounds.{cube_ground};
 ghost use Rattle.game.proofs.Grounds.{cube_law};
 ghost use Rattle.std.proofs.Common.{rules};
 
 use crate::ground::{Ground, JudgingGround};
-use crate::leaves::{is_leaf, marks_of, some_marked};
-use crate::plays::FalseIn;
-use crate::rows::{RowTest, some_row};
-use crate::side::ExistentialSide;
+use crate::plays::row_is_false;
+use crate::rows::Rows;
+use crate::signs::Signs;
 use crate::whole::Whole;
-use formula::letter::Literal;
-
-// The rows without a literal that is marked.
-#[derive(Clone, Copy)]
-struct Missing<'a> {
-    marks: &'a [u8],
-}
-
-impl<'a> RowTest for Missing<'a> {
-    ghost test = { λ t row. not (some_literal (marked_as t.marks.now) row) };
-
-    fn passes(&self, row: &[Literal]) -> bool {
-        !some_marked(self.marks, row)
-    }
-}
+use formula::letter::{Letter, Literal};
 
 #[derive(Clone, Copy)]
 pub struct Cubes<F> {
@@ -34,9 +19,9 @@ pub struct Cubes<F> {
 }
 
 impl<F: Whole> Ground for Cubes<F> {
-    type Own = ExistentialSide;
+    const OWN: Letter = Letter::Existential;
 
-    const OWN: ExistentialSide = ExistentialSide;
+    ghost OWN = { Existential };
 
     ghost meaning = { λ g. cube_ground (F.Whole.formula g.formula) };
 
@@ -52,16 +37,15 @@ impl<F: Whole> Ground for Cubes<F> {
 
     // One pass over the leaf and the rows.
     fn admit(&self, leaf: &[Literal]) -> bool {
-        if !is_leaf(&self.formula, leaf) {
+        let Some(signs) = Signs::of_leaf(&self.formula, leaf) else {
             return false;
-        }
-        let marks = marks_of(leaf);
-        !some_row(&self.formula, &Missing { marks: &marks })
+        };
+        Rows::of(&self.formula).all(|row| signs.have_some(row))
     }
 }
 
 impl<F: Whole> JudgingGround for Cubes<F> {
     fn judge(&self, play: &[u8]) -> bool {
-        !some_row(&self.formula, &FalseIn { play })
+        Rows::of(&self.formula).all(|row| !row_is_false(play, row))
     }
 }

@@ -1,19 +1,19 @@
 // The interface of grounds.
 ghost use Rattle.std.specs.Prelude.{◌≡◌, true};
+ghost use Rattle.formula.specs.declared.letter.Letter.{Letter};
 ghost use Rattle.formula.specs.Formula.{well_formed};
 ghost use Rattle.game.specs.Grounds.{Ground as Meaning, KeepsLaw};
 ghost use Rattle.ground.specs.Admits.{admits_leaf};
 
-use crate::side::Sided;
-use formula::letter::Literal;
+use formula::letter::{Letter, Literal};
 
 // A ground stands for one side in the game of one sealed formula: it says which leaves a derivation may start from, and which
 // finished plays are won. Its law: every full play that meets an admitted leaf is won.
 pub trait Ground {
-    type Own: Sided;
+    // Own side's letter: `G::OWN` in code, `G.OWN` in clauses.
+    const OWN: Letter;
 
-    // Own side. In code `G::OWN.letter()`, in a clause `Self.Own.Sided.own`.
-    const OWN: Self::Own;
+    ghost OWN: { Letter };
 
     ghost meaning: { Self → Meaning };
 
@@ -25,7 +25,7 @@ pub trait Ground {
     fn admit(&self, leaf: &[Literal]) -> bool
         ensures { result ≡ admits_leaf (meaning self.now) leaf.now };
 
-    ghost letter: { (g : Self) → (meaning g).own ≡ Self.Own.Sided.own };
+    ghost letter: { (g : Self) → (meaning g).own ≡ OWN };
 
     ghost whole: { (g : Self) → well_formed (meaning g).formula ≡ true };
 

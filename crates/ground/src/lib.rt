@@ -7,7 +7,7 @@ pub mod ground;
 pub mod leaves;
 mod plays;
 mod rows;
-pub mod side;
+mod signs;
 pub mod whole;
 
 pub use clauses::Clauses;

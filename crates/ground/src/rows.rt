@@ -1,29 +1,37 @@
-// The rows of a formula, looked through once.
-ghost use Rattle.std.specs.Prelude.{◌≡◌, Bool, List};
-ghost use Rattle.formula.specs.declared.letter.Literal.{Literal};
-ghost use Rattle.game.specs.Grounds.{some_row};
+// The rows of a formula, one after another.
+ghost use Rattle.std.specs.Prelude.{◌≡◌};
+ghost use Rattle.std.specs.Iterator.{YieldsFirstRef, item_count};
+ghost use Rattle.ground.specs.Rows.{rows_left};
 
 use crate::whole::Whole;
 use formula::letter::Literal;
+use std::ops::Range;
 
-// A test of a row.
-pub(crate) trait RowTest {
-    ghost test: { Self → List Literal → Bool };
-
-    fn passes(&self, row: &[Literal]) -> bool
-        ensures { result ≡ test self.now row.now };
+#[derive(Drop)]
+pub(crate) struct Rows<'a, F> {
+    formula: &'a F,
+    places: Range<usize>,
 }
 
-// Whether some row passes.
-pub(crate) fn some_row<F: Whole, T: RowTest>(formula: &F, test: &T) -> bool
-    ensures { result ≡ some_row (T.RowTest.test test.now) (F.Whole.formula formula.now).rows }
-{
-    for i in 0..formula.rows() {
-        if let Some(row) = formula.row(i) {
-            if test.passes(row) {
-                return true;
-            }
+impl<'a, F: Whole> Rows<'a, F> {
+    pub(crate) fn of(formula: &'a F) -> Self
+        ensures { rows_left F.Whole.formula result ≡ (F.Whole.formula formula.now).rows }
+    {
+        Rows {
+            formula,
+            places: 0..formula.rows(),
         }
     }
-    false
+}
+
+impl<'a, F: Whole> Iterator for Rows<'a, F> {
+    type Item = &'a [Literal];
+
+    ghost next_gives = { YieldsFirstRef (rows_left F.Whole.formula) };
+
+    ghost remaining = { item_count (rows_left F.Whole.formula) };
+
+    fn next(&mut self) -> Option<&'a [Literal]> {
+        self.formula.row(self.places.next()?)
+    }
 }

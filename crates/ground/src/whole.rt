@@ -27,6 +27,8 @@ pub trait Whole {
         ensures { option_map (λ s. s.now) result ≡ slice_get (formula self.now).rows i };
 }
 
+// Each look-up goes on to the method of the same name. The trait stays beside them, since a ground may stand on another formula, and
+// `Sealed::row` lends a row for longer than a method of the trait can.
 impl<'a> Whole for Sealed<'a> {
     ghost formula = { λ s. sealed_formula s };
 

@@ -5,12 +5,12 @@
 ghost use Rattle.short_rows.specs.Short.{short_ground};
 ghost use Rattle.std.specs.Prelude.{◌&&◌, length, nat_le};
 ghost use Rattle.std.proofs.lemmas.Bool.{and_parts};
+ghost use Rattle.formula.specs.declared.letter.Letter.TheVariants.{Universal};
 ghost use Rattle.game.specs.Grounds.{leaf_over, clause_ground};
 ghost use Rattle.game.proofs.Grounds.{clause_law};
 ghost use Rattle.std.proofs.Common.{rules};
 
-use formula::letter::Literal;
-use ground::side::UniversalSide;
+use formula::letter::{Letter, Literal};
 use ground::whole::Whole;
 use ground::{Clauses, Ground, JudgingGround};
 
@@ -21,9 +21,9 @@ pub struct ShortRows<F> {
 }
 
 impl<F: Whole> Ground for ShortRows<F> {
-    type Own = UniversalSide;
+    const OWN: Letter = Letter::Universal;
 
-    const OWN: UniversalSide = UniversalSide;
+    ghost OWN = { Universal };
 
     ghost meaning = { λ g. short_ground g.most (F.Whole.formula g.clauses.formula) };
 
