@@ -7,7 +7,6 @@ ghost use Rattle.docket.specs.Sides.{seen};
 
 use formula::letter::{Letter, same_letter};
 use ground::Ground;
-use ground::side::Sided;
 use qdimacs::Sealed;
 
 #[derive(Clone, Copy)]
@@ -23,7 +22,7 @@ pub(crate) fn side_at<'a, G: Ground>(formula: &Sealed<'a>, own_ground: &G) -> Si
     let _ = own_ground;
     Side {
         formula: *formula,
-        own: G::OWN.letter(),
+        own: G::OWN,
     }
 }
 

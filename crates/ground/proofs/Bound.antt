@@ -7,6 +7,7 @@ use Rattle.formula.specs.Formula.{Formula, row_bound, well_formed, WellFormed}
 use Rattle.formula.proofs.Blocks.{has_append, none_out_of_range}
 use Rattle.formula.proofs.WellFormed.{tested}
 
+-- a variable has an owner exactly if it is bound
 pub owner_some_is : (bs : List Block) (x : ℕ) → is_some (owner bs x) ≡ has_var (order bs) x
 owner_some_is [] x = refl
 owner_some_is (b ∷ bs) x = grind (arith, common_steps, owner_some_is bs x, has_append b.vars (order bs) x)

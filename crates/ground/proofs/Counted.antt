@@ -33,7 +33,7 @@ lies_on [] ls x new all = refl
 lies_on (k ∷ row) ls x new all = grind (arith, common_steps, stays ls x k, lies_on row ls x)
 
 -- a list that lies in another is not longer
-pub fits : (row ls : List Literal) → row_distinct row ≡ true → each_literal (has_literal ls) row ≡ true → length row ≤ length ls
+fits : (row ls : List Literal) → row_distinct row ≡ true → each_literal (has_literal ls) row ≡ true → length row ≤ length ls
 unfolding each_literal
 fits [] ls once all = omega arith
 fits (k ∷ row) ls once all = grind (arith, common_steps, shorter ls k, fits row (without k.variable ls), lies_on row ls k.variable)
@@ -49,20 +49,23 @@ unfolding each_literal some_literal
 beside [] ls l once there new all = refl
 beside (k ∷ row) ls l once there new all = grind (arith, common_steps, stays ls l.variable k, one_of ls k l once, beside row ls l once there)
 
+-- the first literal stands in its list
 has_first : (l : Literal) (ls : List Literal) → has_literal (l ∷ ls) l ≡ true
 unfolding some_literal
 has_first l ls = grind (arith, common_steps)
 
+-- a test that each literal of a list passes
 each_from : (f : Literal → Bool) (ls : List Literal) → ((l : Literal) → has_literal ls l ≡ true → f l ≡ true) → each_literal f ls ≡ true
 unfolding each_literal some_literal
 each_from f [] all = refl
 each_from f (l ∷ ls) all = grind (arith, common_steps, all l (has_first l ls), each_from f ls (λ k h. all k (or_right (same_literal k l) (some_literal (same_literal k) ls) h)))
 
-pub covered : (row ls : List Literal) → row_distinct row ≡ true → row_distinct ls ≡ true → length row ≡ length ls
+-- what is as long as a list and lies in it has all its literals
+covered : (row ls : List Literal) → row_distinct row ≡ true → row_distinct ls ≡ true → length row ≡ length ls
     → each_literal (has_literal ls) row ≡ true → each_literal (has_literal row) ls ≡ true
 covered row ls once twice same all = each_from (has_literal row) ls (λ l there. grind (arith, common_steps, shorter ls l, fits row (without l.variable ls) once, beside row ls l twice there))
 
--- the test by length and marks tells whether two lists have the same literals
+-- where the first is as long as the second and lies in it, and only there, they have the same literals
 pub same_by_count : (row ls : List Literal) → row_distinct row ≡ true → row_distinct ls ≡ true
     → (eqb (length row) (length ls) && each_literal (has_literal ls) row) ≡ (each_literal (has_literal row) ls && each_literal (has_literal ls) row)
 same_by_count row ls once twice = grind (arith, common_steps, cases_eq (length row) (length ls), covered row ls once twice, fits row ls once, fits ls row twice)

@@ -13,6 +13,7 @@ use Rattle.ground.specs.Signs.{is_sign}
 
 -- ---- rising lists name no variable twice
 
+-- a rising list above a names no lower variable
 above_new : (a : ℕ) (ls : List Literal) (x : ℕ) → rising a ls ≡ true → x ≤ a → names ls x ≡ false
 unfolding rising
 above_new a [] x up low = refl
@@ -30,6 +31,7 @@ unfoldable pub sign_in : List Literal → ℕ → Option Bool
 sign_in [] x = None
 sign_in (l ∷ ls) x = option_or (sign_in ls x) (cond (eqb l.variable x) (Some l.positive) None)
 
+-- what a list does not name has no sign in it, and no literal
 unsigned : (ls : List Literal) (x : ℕ) → names ls x ≡ false → sign_in ls x ≡ None
 unfolding sign_in
 unsigned [] x new = refl

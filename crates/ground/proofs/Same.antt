@@ -13,6 +13,7 @@ use Rattle.ground.proofs.LeafSigns.{rising_distinct}
 use Rattle.ground.proofs.Counted.{same_by_count}
 
 module _ (F : Formula) (whole : well_formed F ≡ true) (ls : List Literal) (leaf : leaf_over F ls ≡ true) (has : Literal → Bool) (told : (l : Literal) → has l ≡ has_literal ls l) where
+  -- the test by signs is that of the leaf
   each_same : (row : List Literal) → each_literal has row ≡ each_literal (has_literal ls) row
   unfolding each_literal
   each_same [] = refl
@@ -41,5 +42,6 @@ module _ (F : Formula) (whole : well_formed F ≡ true) (ls : List Literal) (lea
   rows_met [] = refl
   rows_met (row ∷ rows) = grind (arith, common_steps, some_same row, rows_met rows)
 
+  -- each row has a literal of the leaf
   pub cube_admits : list_all (some_literal has) F.rows ≡ admits_leaf (cube_ground F) ls
   cube_admits = grind (arith, common_steps, rows_met F.rows)
