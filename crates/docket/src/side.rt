@@ -5,7 +5,7 @@ ghost use Rattle.qdimacs.specs.Kept.{sealed_formula};
 ghost use Rattle.calls.specs.Dockets.{side_at};
 ghost use Rattle.docket.specs.Sides.{seen};
 
-use formula::letter::{Letter, same_letter};
+use formula::letter::Letter;
 use ground::Ground;
 use qdimacs::Sealed;
 
@@ -32,7 +32,7 @@ impl<'a> Side<'a> {
         ensures { result ≡ (seen self.now).mine variable }
     {
         match self.formula.owner(variable) {
-            Some(letter) => same_letter(self.own, letter),
+            Some(letter) => self.own == letter,
             None => false,
         }
     }
