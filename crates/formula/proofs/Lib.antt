@@ -4,5 +4,4 @@ mod SectionLemmas
 mod Rows
 pub mod Blocks
 mod Kept
-pub mod Told
 pub mod WellFormed

@@ -2,8 +2,9 @@
 ghost use Rattle.std.specs.Prelude.{◌≡◌, ◌≤◌, min, length, OnErr};
 ghost use Rattle.std.specs.Option.{option_map};
 ghost use Rattle.std.specs.List.{slice_get};
+ghost use Rattle.std.specs.Result.{result_err};
 ghost use Rattle.formula.specs.Matrix.{MarksTold, add_literal, all_literals, complete, end_row, forbidden, no_rows};
-ghost use Rattle.formula.specs.Told.{told, unless};
+ghost use Rattle.formula.specs.Told.{told};
 
 use crate::letter::Literal;
 use crate::limits::{MARKS, MOST_LITERALS, MOST_ROWS};
@@ -60,7 +61,7 @@ impl Matrix {
 
     // Whether a literal may stand in the row that is being read, room aside.
     fn allows(&self, literal: Literal) -> Result<(), Reason>
-        ensures { result ≡ unless (forbidden literal (matrix_of self.now)) }
+        ensures { result_err result ≡ forbidden literal (matrix_of self.now) }
     {
         if self.is_complete() {
             return Err(Reason::WrongRowCount);

@@ -1,9 +1,10 @@
 // The prefix of a formula, in room of its own.
 ghost use Rattle.std.specs.Prelude.{◌≡◌, ◌≤◌, true, min, length, OnErr};
 ghost use Rattle.std.specs.List.{slice_get};
+ghost use Rattle.std.specs.Result.{result_err};
 ghost use Rattle.formula.specs.Prefix.{LevelsTold, all_in_range, bind as bound_one, blocks_in, end_block, ends_in, in_range, level as level_of, level_so_far, marked, no_block, order as prefix_order, owner as owner_of, unbindable, unbound, unnameable};
 ghost use Rattle.formula.specs.Sections.{all_items};
-ghost use Rattle.formula.specs.Told.{told, unless};
+ghost use Rattle.formula.specs.Told.{told};
 
 use crate::letter::Letter;
 use crate::limits::{MARKS, MOST_BLOCKS, MOST_VARIABLES};
@@ -87,7 +88,7 @@ impl Prefix {
     // Whether a variable may be bound.
     #[tactic(auto, using(crate::proofs::Kept::bound_at, crate::proofs::Kept::unbound_at))]
     fn bindable(&self, variable: u32) -> Result<(), Reason>
-        ensures { result ≡ unless (unbindable variable (prefix_of self.now)) }
+        ensures { result_err result ≡ unbindable variable (prefix_of self.now) }
     {
         if !self.has(variable) {
             return Err(Reason::VariableOutOfRange);
@@ -101,7 +102,7 @@ impl Prefix {
     // Whether a row may name a variable.
     #[tactic(auto, using(crate::proofs::Kept::bound_at, crate::proofs::Kept::unbound_at))]
     pub fn nameable(&self, variable: u32) -> Result<(), Reason>
-        ensures { result ≡ unless (unnameable variable (prefix_of self.now)) }
+        ensures { result_err result ≡ unnameable variable (prefix_of self.now) }
     {
         if !self.has(variable) {
             return Err(Reason::VariableOutOfRange);
@@ -135,7 +136,7 @@ impl Prefix {
 
     // Whether a block of this letter may follow.
     pub fn may_open(&self, letter: Letter) -> Result<(), Reason>
-        ensures { result ≡ unless (no_block letter (prefix_of self.now)) }
+        ensures { result_err result ≡ no_block letter (prefix_of self.now) }
     {
         if self.ends_in(letter) {
             return Err(Reason::BadBlock);

@@ -1,8 +1,7 @@
-use Rattle.std.proofs.Common.{◌≡◌, ◌∙◌, length}
+use Rattle.std.proofs.Common.{sym, ◌≡◌, ◌∙◌, length}
 use Rattle.std.proofs.lemmas.List.{length-map}
 use Rattle.formula.specs.View.{matrix_of}
 use Rattle.formula.specs.Matrix.{as_row}
-use Rattle.formula.proofs.Told.{no_reason}
 use Rattle.formula.proofs.Rows.{fitting, literal_marks}
 use Rattle.formula.proofs.matrix.Matrix.add.Goals as goal
 
@@ -10,6 +9,6 @@ pub invariant_of-self-clause-marks : goal.invariant_of-self-clause-marks
 invariant_of-self-clause-marks c =
     let m = c.args.self.now in
     let l = c.args.literal in
-    let fits = fitting l (matrix_of m) (no_reason _ _ c.in_ok-allows.ensures) in
+    let fits = fitting l (matrix_of m) (sym c.in_ok-allows.ensures) in
     let row : c.rows-row.result ≡ length m.rows.complete = c.rows-row.ensures ∙ length-map m.rows.complete as_row in
     rw (c.push.ensures, row) (literal_marks m.seen _ m.rows.begun l m.each_seen fits m.marks)

@@ -1,16 +1,15 @@
-use Rattle.std.proofs.Common.{arith, length-set}
-use Rattle.formula.proofs.Told.{no_reason}
+use Rattle.std.proofs.Common.{sym, arith, length-set}
 use Rattle.formula.proofs.Kept.{place_left, range_kept, told_kept, marked_kept}
 use Rattle.formula.proofs.prefix.Prefix.bind.Goals as goal
 
 pub push-requires : goal.push-requires
-push-requires c = (omega arith, place_left c.args.self.now c.args.variable (no_reason _ _ c.in_ok-bindable.ensures))
+push-requires c = (omega arith, place_left c.args.self.now c.args.variable (sym c.in_ok-bindable.ensures))
 
 pub invariant_of-self : goal.invariant_of-self
 invariant_of-self c =
     let p = c.args.self.now in
     let x = c.args.variable in
-    let fine = no_reason _ _ c.in_ok-bindable.ensures in
+    let fine = sym c.in_ok-bindable.ensures in
     rw c.push.ensures (record {
       each_level = simp length-set p.each_level;
       few = p.few;

@@ -1,16 +1,15 @@
-use Rattle.std.proofs.Common.{length, sym, ap, ◌∙◌, arith, length-append}
+use Rattle.std.proofs.Common.{sym, length, sym, ap, ◌∙◌, arith, length-append}
 use Rattle.std.proofs.lemmas.List.{length-map, map-append}
 use Rattle.formula.specs.Prefix.{all_in_range}
 use Rattle.formula.specs.View.{prefix_of}
 use Rattle.formula.proofs.SectionLemmas.{all_items-with_section}
 use Rattle.formula.proofs.Blocks.{block_levels, blocks_fit}
-use Rattle.formula.proofs.Told.{no_reason}
 use Rattle.formula.proofs.prefix.Prefix.end_block.Goals as goal
 
 pub invariant_of-self : goal.invariant_of-self
 invariant_of-self c =
     let p = c.args.self.now in
-    let few = blocks_fit c.args.letter (prefix_of p) (no_reason _ _ c.in_ok-may_open.ensures) in
+    let few = blocks_fit c.args.letter (prefix_of p) (sym c.in_ok-may_open.ensures) in
     let same = all_items-with_section c.args.letter p.blocks in
     rw c.end.ensures (record {
       each_level = p.each_level;
