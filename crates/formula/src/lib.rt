@@ -2,7 +2,7 @@
 #![tactic(auto)]
 
 pub mod letter;
-mod limits;
+pub mod limits;
 pub mod matrix;
 pub mod prefix;
 mod sections;

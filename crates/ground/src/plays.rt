@@ -8,7 +8,7 @@ use formula::letter::Literal;
 fn literal_is_false(play: &[u8], literal: Literal) -> bool
     ensures { result ≡ literal_false play.now literal }
 {
-    let falsifying = if literal.positive { 0 } else { 1 };
+    let falsifying = u8::from(!literal.positive);
     let place = (literal.variable as usize).checked_sub(1);
     place.and_then(|at| play.get(at)) == Some(&falsifying)
 }

@@ -8,11 +8,12 @@ ghost use Rattle.ground.specs.Signs.{has_sign};
 use crate::leaves::is_leaf;
 use crate::whole::Whole;
 use formula::letter::Literal;
+use formula::limits::MARKS;
 
 // For each variable the sign that the leaf gives it, none where the leaf does not name it.
 #[derive(Drop)]
 pub(crate) struct Signs {
-    by_variable: [Option<bool>; 1025],
+    by_variable: [Option<bool>; MARKS],
 }
 
 impl Signs {
@@ -24,7 +25,7 @@ impl Signs {
         if !is_leaf(formula, leaf) {
             return None;
         }
-        let mut by_variable = [None; 1025];
+        let mut by_variable = [None; MARKS];
         for literal in leaf {
             by_variable[literal.variable as usize] = Some(literal.positive);
         }

@@ -6,12 +6,9 @@ ghost use Rattle.qdimacs.specs.Moves.{block_number, decide as decided, head_numb
 ghost use Rattle.qdimacs.specs.Reading.{at_place};
 
 use formula::letter::{Letter, Literal};
+use formula::limits::{MOST_ROWS, MOST_VARIABLES};
 use refusal::{Layer, Reason, Refusal};
 use words::token::{Kind, Token, is_printable};
-
-pub const MOST_VARIABLES: u32 = 1024;
-
-pub const MOST_ROWS: u32 = 4096;
 
 // What is due.
 #[derive(Clone, Copy)]
@@ -23,7 +20,7 @@ pub enum Phase {
     // n, the number of variables
     Variables,
     // m, the number of rows; n is read
-    RowCount(u32),
+    RowCount(usize),
     // a block, or the first row
     Blocks,
     // a variable of a block with this letter, or its end
@@ -39,8 +36,8 @@ pub enum Phase {
 pub enum Move {
     Problem,
     Format,
-    Variables(u32),
-    Head(u32, u32),
+    Variables(usize),
+    Head(usize, usize),
     Open(Letter),
     Bind(u32),
     EndBlock(Letter),
@@ -100,10 +97,10 @@ fn is_format(word: &[u8]) -> bool
 }
 
 // A number of the head: from 0 to `most`.
-fn head_number(value: i32, most: u32) -> Result<u32, Fault>
+fn head_number(value: i32, most: usize) -> Result<usize, Fault>
     ensures { result ≡ head_number most value }
 {
-    match u32::try_from(value) {
+    match usize::try_from(value) {
         Ok(number) if number <= most => Ok(number),
         _ => Err(BAD_HEAD),
     }

@@ -85,8 +85,8 @@ impl Draft {
             Move::Format => Phase::Variables,
             Move::Variables(n) => Phase::RowCount(n),
             Move::Head(n, m) => {
-                self.prefix.restart(n as usize);
-                self.matrix.restart(m as usize);
+                self.prefix.restart(n);
+                self.matrix.restart(m);
                 Phase::Blocks
             }
             Move::Open(letter) => {
