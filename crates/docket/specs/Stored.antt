@@ -1,10 +1,12 @@
 -- Steps as they are kept: the marks of all records one after another, and for each step how it came and where its record ends among them.
 use Rattle.std.specs.Prelude.{◌≡◌, ℕ, Bool, true, ◌&&◌, List, [], ◌∷◌, Some, None, Option, nat_lt}
 use Rattle.formula.specs.Cuts.{cut, last_end, climbs}
+use Rattle.formula.specs.declared.letter.Literal.{Literal}
 use Rattle.game.specs.declared.record.Entry.{Entry}
 use Rattle.game.specs.declared.record.Mark.{Mark}
 use Rattle.game.specs.declared.record.Mark.TheVariants.{Plus}
 use Rattle.game.specs.Records.{Record, Found, absent, has}
+use Rattle.game.specs.Leaves.{mark_from}
 use Rattle.game.specs.Rules.{Step}
 use Rattle.docket.specs.declared.stored.StoredStep.{StoredStep}
 
@@ -31,6 +33,10 @@ rises a (e ∷ r) = nat_lt a e.variable && rises e.variable r
 unfoldable pub all_rise : List Step → Bool
 all_rise [] = true
 all_rise (s ∷ ss) = rises 0 s.marks && all_rise ss
+
+-- a literal as a mark of its variable
+abbrev pub as_entry : Literal → Entry
+as_entry l = record { variable = l.variable; mark = mark_from l.positive }
 
 -- what a place without an entry reads as
 abbrev pub blank : Entry

@@ -5,7 +5,7 @@ ghost use Rattle.qdimacs.specs.Kept.{sealed_formula};
 ghost use Rattle.calls.specs.Dockets.{side_at};
 ghost use Rattle.docket.specs.Sides.{seen};
 
-use formula::letter::{Letter, same_letter};
+use formula::letter::Letter;
 use ground::Ground;
 use ground::side::Sided;
 use qdimacs::Sealed;
@@ -16,26 +16,23 @@ pub(crate) struct Side<'a> {
     pub(crate) own: Letter,
 }
 
-// The game of the formula as the ground's side sees it.
-pub(crate) fn side_at<'a, G: Ground>(formula: &Sealed<'a>, own_ground: &G) -> Side<'a>
-    ensures { seen result ≡ side_at (sealed_formula formula.now) (G.Ground.meaning own_ground.now) }
-{
-    let _ = own_ground;
-    Side {
-        formula: *formula,
-        own: G::OWN.letter(),
-    }
-}
-
 impl<'a> Side<'a> {
+    // The game of the formula as the ground's side sees it.
+    pub(crate) fn of<G: Ground>(formula: &Sealed<'a>, own_ground: &G) -> Side<'a>
+        ensures { seen result ≡ side_at (sealed_formula formula.now) (G.Ground.meaning own_ground.now) }
+    {
+        let _ = own_ground;
+        Side {
+            formula: *formula,
+            own: G::OWN.letter(),
+        }
+    }
+
     // Whether own side binds the variable.
     pub(crate) fn mine(&self, variable: u32) -> bool
         ensures { result ≡ (seen self.now).mine variable }
     {
-        match self.formula.owner(variable) {
-            Some(letter) => same_letter(self.own, letter),
-            None => false,
-        }
+        self.formula.owner(variable) == Some(self.own)
     }
 
     // The place of the variable's block, from 1; 0 where it is unbound.
