@@ -1,9 +1,8 @@
 -- The lowest step with an empty record, looked for step by step.
-use Rattle.std.proofs.Common.{◌≡◌, ℕ, suc, ◌+◌, ◌-◌, ◌<◌, ◌≤◌, Bool, true, false, eqb, List, [], ◌∷◌, length, get_or, take, drop, sym, refl, ap, ◌∙◌, subst, inl, inr, arith}
+use Rattle.std.proofs.Common.{◌≡◌, ℕ, zero, suc, MatchOption, Option, Some, None, ◌+◌, ◌-◌, ◌<◌, ◌≤◌, Bool, true, false, eqb, List, [], ◌∷◌, length, get_or, take, drop, sym, refl, ap, ◌∙◌, subst, inl, inr, arith}
 use Rattle.std.specs.List.{between}
 use Rattle.std.proofs.lemmas.List.{length-take-le, length-drop}
 use Rattle.std.proofs.lemmas.Option.{slice_get-get_or}
-use Rattle.std.proofs.lemmas.Bool.{cases_eq}
 use Rattle.std.proofs.lemmas.Bool.Decides.{nat_tests}
 use Rattle.formula.specs.Cuts.{last_end}
 use Rattle.game.specs.declared.record.Entry.{Entry}
@@ -36,21 +35,32 @@ empty_at stored marks lie k d low =
     tests : (a b : ℕ) → a ≤ b → eqb a b ≡ eqb (b - a) 0
     tests a b le = grind (arith, nat_tests)
 
--- the loop: none of the first k passes; one more does not; one does; none does
-module _ (f : ℕ → Bool) (n k : ℕ) (before : NonePasses f k) where
-  pub passes_not : f (suc k) ≡ false → NonePasses f (k + 1)
-  passes_not fails j lo hi = elim (cases_eq j (suc k)) [ inl q ↦ ap f q ∙ fails | inr d ↦ before j lo (omega arith) ]
+-- the lowest number from 1 on that passes a test is one more than the first place from 0 on where the test is passed
+module _ (f : ℕ → Bool) (n : ℕ) where
+  abbrev pub First : Option ℕ → Type 0
+  First r = MatchOption r ((k : ℕ) → 0 ≤ k → k < n → f (suc k) ≡ false)
+      (λ i. (0 ≤ i) × (i < n) × (f (suc i) ≡ true) × ((k : ℕ) → 0 ≤ k → k < i → f (suc k) ≡ false))
 
-  pub passes_here : k < n → f (suc k) ≡ true → k + 1 ≡ lowest f n
-  passes_here low here = sym (lowest_is f n (k + 1) (record {
-    low = omega arith;
-    high = omega arith;
-    passes = subst (λ i. f i ≡ true) {x = suc k} {y = k + 1} (omega arith) here;
-    none_below = λ j lo hi. before j lo (omega arith);
-  }))
+  before : (m : ℕ) → ((k : ℕ) → 0 ≤ k → k < m → f (suc k) ≡ false) → NonePasses f m
+  before m none zero lo hi = absurd (omega arith)
+  before m none (suc k) lo hi = none k (omega arith) (omega arith)
 
-  pub passes_none : n ≤ k → 0 ≡ lowest f n
-  passes_none all = elim (lowest_cases f n) [
-    | inl none ↦ sym none.0
-    | inr l ↦ let fails : f (lowest f n) ≡ false = before (lowest f n) l.low (let h = l.high in omega arith) in let p = l.passes in cc
-  ]
+  pub lowest_none : {r : Option ℕ} → First r → r ≡ None → lowest f n ≡ 0
+  lowest_none first is =
+      let none : First None = subst First is first in elim (lowest_cases f n) [
+        | inl z ↦ z.0
+        | inr l ↦ let fails : f (lowest f n) ≡ false = before n none (lowest f n) l.low l.high in let p = l.passes in cc
+      ]
+
+  pub found : {r : Option ℕ} (i : ℕ) → First r → r ≡ Some i → First (Some i)
+  found i first is = subst First is first
+
+  pub lowest_some : {r : Option ℕ} (i : ℕ) → First r → r ≡ Some i → lowest f n ≡ i + 1
+  lowest_some i there is =
+      let first = found i there is in
+      lowest_is f n (i + 1) (record {
+        low = omega arith;
+        high = omega (arith, first.1);
+        passes = subst (λ k. f k ≡ true) {x = suc i} {y = i + 1} (omega arith) first.2;
+        none_below = λ j lo hi. before i first.3 j lo (omega arith);
+      })

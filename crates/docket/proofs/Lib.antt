@@ -1,4 +1,6 @@
 mod Steps
+mod Checks
+mod Rooms
 mod Opening
 mod Leaf
 mod Entering

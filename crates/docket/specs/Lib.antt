@@ -1,3 +1,4 @@
+pub mod Checks
 pub mod Sides
 pub mod Stored
 pub mod Models

@@ -2,6 +2,7 @@
 use Rattle.std.specs.Prelude.{◌≡◌, ℕ, ◌+◌, ◌≤◌, true, false, List, [], ◌∷◌, length, Ok, Err, Option, Result, MatchOption, MatchResult}
 use Rattle.std.specs.List.{between}
 use Rattle.refusal.specs.declared.Refusal.{Refusal}
+use Rattle.table.specs.declared.join.Span.{Span}
 use Rattle.table.specs.declared.slab.Table.{Table}
 use Rattle.table.specs.Entries.{entries, free, Grown}
 use Rattle.formula.specs.declared.letter.Literal.{Literal}
@@ -13,7 +14,6 @@ use Rattle.game.specs.Grounds.{Ground}
 use Rattle.calls.specs.Dockets as model
 use Rattle.docket.specs.declared.docket.Docket.{Docket}
 use Rattle.docket.specs.declared.docket.Verdict.{Verdict}
-use Rattle.docket.specs.declared.stored.Span.{Span}
 use Rattle.docket.specs.declared.stored.StoredStep.{StoredStep}
 use Rattle.docket.specs.Stored.{steps_in}
 

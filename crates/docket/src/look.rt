@@ -10,19 +10,8 @@ pub(crate) fn mark_of(marks: &[Entry], variable: u32) -> Option<Mark>
     requires { rises 0 marks.now ≡ true }
     ensures { as_found result ≡ found marks.now variable }
 {
-    let mut low = 0;
-    let mut high = marks.len();
-    while low < high {
-        let middle = low + (high - low) / 2;
-        let entry = marks[middle];
-        if entry.variable == variable {
-            return Some(entry.mark);
-        }
-        if entry.variable < variable {
-            low = middle + 1;
-        } else {
-            high = middle;
-        }
-    }
-    None
+    let place = marks
+        .binary_search_by_key(&variable, |entry| entry.variable)
+        .ok()?;
+    Some(marks[place].mark)
 }

@@ -15,26 +15,23 @@ pub(crate) struct Side<'a> {
     pub(crate) own: Letter,
 }
 
-// The game of the formula as the ground's side sees it.
-pub(crate) fn side_at<'a, G: Ground>(formula: &Sealed<'a>, own_ground: &G) -> Side<'a>
-    ensures { seen result ≡ side_at (sealed_formula formula.now) (G.Ground.meaning own_ground.now) }
-{
-    let _ = own_ground;
-    Side {
-        formula: *formula,
-        own: G::OWN,
-    }
-}
-
 impl<'a> Side<'a> {
+    // The game of the formula as the ground's side sees it.
+    pub(crate) fn of<G: Ground>(formula: &Sealed<'a>, own_ground: &G) -> Side<'a>
+        ensures { seen result ≡ side_at (sealed_formula formula.now) (G.Ground.meaning own_ground.now) }
+    {
+        let _ = own_ground;
+        Side {
+            formula: *formula,
+            own: G::OWN,
+        }
+    }
+
     // Whether own side binds the variable.
     pub(crate) fn mine(&self, variable: u32) -> bool
         ensures { result ≡ (seen self.now).mine variable }
     {
-        match self.formula.owner(variable) {
-            Some(letter) => self.own == letter,
-            None => false,
-        }
+        self.formula.owner(variable) == Some(self.own)
     }
 
     // The place of the variable's block, from 1; 0 where it is unbound.

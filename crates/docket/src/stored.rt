@@ -2,15 +2,8 @@
 use game::record::Origin;
 
 // How the step came, and where its record ends among the marks of all steps; it begins where the record of the step before ends.
-#[derive(Clone, Copy, Debug)]
+#[derive(Clone, Copy, Debug, PartialEq)]
 pub struct StoredStep {
     pub origin: Origin,
     pub end: usize,
-}
-
-// The marks from place `from` up to, and without, place `to`.
-#[derive(Clone, Copy, Debug)]
-pub struct Span {
-    pub from: usize,
-    pub to: usize,
 }

@@ -17,6 +17,12 @@ module _ {T : Type 0} where
     pub longer : entries after ≡ entries before ++ new
     pub rest : free after ≡ drop (length new) (free before)
 
+  -- the first n slots hold what there was of `new`, as far as there were slots, and no other slot has changed
+  pub record Filled (before new : List T) (n : ℕ) (after : List T) : Type 0 where
+    pub count : n ≡ length (take (length before) new)
+    pub written : take n after ≡ take (length before) new
+    pub rest : drop n after ≡ drop n before
+
   -- no slot has changed
   pub record Same (before after : Table T) : Type 0 where
     pub kept : entries after ≡ entries before

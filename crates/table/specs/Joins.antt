@@ -1,5 +1,5 @@
 -- The join of two sorted lists of entries with keys, and the walk over two lists that makes it.
-use Rattle.std.specs.Prelude.{◌≡◌, ℕ, ◌+◌, ◌-◌, ◌<◌, min, Bool, cond, not, List, [], ◌∷◌, map, Some, None, Option, MatchOption, ◌==◌, nat_lt}
+use Rattle.std.specs.Prelude.{◌≡◌, ℕ, cond, not, List, [], ◌∷◌, map, filter, drop, Some, None, Option, MatchOption, ◌==◌, nat_lt}
 use Rattle.std.specs.List.{between}
 use Rattle.table.specs.declared.join.Meeting.{Meeting}
 use Rattle.table.specs.declared.join.Meeting.TheVariants.{First, Second, Both}
@@ -9,19 +9,6 @@ use Rattle.table.specs.declared.join.Walk.{Walk}
 -- the part of a list that a span names; it is shorter where the list ends before the span, and empty where the span is backward
 abbrev pub part : {T : Type 0} → Span → List T → List T
 part s xs = between s.from s.to xs
-
--- the places of a span that are below n
-abbrev pub below : ℕ → Span → Span
-below n s = record { from = s.from; to = min s.to n }
-
--- the places of a span but for the first n
-abbrev pub past : ℕ → Span → Span
-past n s = record { from = s.from + n; to = s.to }
-
--- the elements that pass the test
-unfoldable pub kept : {T : Type 0} → (T → Bool) → List T → List T
-kept test [] = []
-kept test (x ∷ xs) = cond (test x) (x ∷ kept test xs) (kept test xs)
 
 -- ---- the join, where `key` is the key of an entry, and `both` makes one entry of two that have the same key
 
@@ -42,7 +29,7 @@ module _ {T : Type 0} (key : T → ℕ) (both : T → T → T) where
 
   -- the join without the entries that have the key p
   abbrev pub join_but : ℕ → List T → List T → List T
-  join_but p xs ys = kept (λ x. not (key x == p)) (join xs ys)
+  join_but p xs ys = filter (λ x. not (key x == p)) (join xs ys)
 
 -- ---- the walk
 
@@ -62,10 +49,6 @@ abbrev pub of_second : {T : Type 0} → Meeting T → ℕ
 of_second (First x) = 0
 of_second (Second y) = 1
 of_second (Both x y) = 1
-
--- how many places a walk has still before it
-abbrev pub places_left : Walk → ℕ
-places_left w = (w.first.to - w.first.from) + (w.second.to - w.second.from)
 
 module _ {T : Type 0} (key : T → ℕ) where
   -- the key that is met
@@ -98,16 +81,15 @@ module _ {T : Type 0} (key : T → ℕ) where
   meetings [] ys = map Second ys
   meetings (x ∷ xs) ys = meetings_from x (meetings xs) ys
 
-  -- what a walk over two parts of a list has still to meet
-  abbrev pub ahead : List T → Walk → List (Meeting T)
-  ahead xs w = meetings (part w.first xs) (part w.second xs)
+  -- what a walk has still to meet
+  abbrev pub ahead : Walk T → List (Meeting T)
+  ahead w = meetings w.first.now w.second.now
 
   -- What a call of `next` does: where something is still to be met, the result is the first of it, and the walk has gone on past it;
-  -- where nothing is, the walk stays. It ends where it did.
-  pub record Stepped (xs : List T) (before : Walk) (r : Option (Meeting T)) (after : Walk) : Type 0 where
+  -- where nothing is, the walk stays.
+  pub record Stepped (before : Walk T) (r : Option (Meeting T)) (after : Walk T) : Type 0 where
     pub cases :
         MatchOption r
-        ((ahead xs before ≡ []) × (after ≡ before))
-        (λ m. (ahead xs before ≡ m ∷ ahead xs after) × (places_left after < places_left before))
-    pub first_end : after.first.to ≡ before.first.to
-    pub second_end : after.second.to ≡ before.second.to
+        ((ahead before ≡ []) × (after ≡ before))
+        (λ m. (ahead before ≡ m ∷ ahead after)
+        × (after.first.now ≡ drop (of_first m) before.first.now) × (after.second.now ≡ drop (of_second m) before.second.now))

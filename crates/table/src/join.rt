@@ -1,11 +1,8 @@
 // The join of two sorted lists, one text for every kind of entry that has a key.
 ghost use Rattle.std.specs.Prelude.{◌≡◌, ℕ};
 
-mod append;
 mod meets;
 mod steps;
-
-pub use append::append_joined;
 
 // An entry with a key, and how two entries of one key become one.
 pub trait Keyed: Copy {
@@ -24,7 +21,7 @@ pub trait Keyed: Copy {
 
 // What a walk over two sorted lists meets next: an entry of the first list alone, one of the second alone, or one of each with
 // the same key.
-#[derive(Clone, Copy)]
+#[derive(Clone, Copy, Debug, PartialEq)]
 pub enum Meeting<T> {
     First(T),
     Second(T),
@@ -32,15 +29,15 @@ pub enum Meeting<T> {
 }
 
 // The places from `from` up to, and without, `to`.
-#[derive(Clone, Copy)]
+#[derive(Clone, Copy, Debug, PartialEq)]
 pub struct Span {
     pub from: usize,
     pub to: usize,
 }
 
-// A walk over two parts of a list at once, by rising keys: of each part, what is still ahead.
+// A walk over two sorted lists at once, by rising keys: of each list, what is still ahead.
 #[derive(Drop)]
-pub struct Walk {
-    first: Span,
-    second: Span,
+pub struct Walk<'a, T> {
+    first: &'a [T],
+    second: &'a [T],
 }

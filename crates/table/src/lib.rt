@@ -4,23 +4,23 @@
 mod join;
 mod slab;
 
-pub use join::{Keyed, Meeting, Span, Walk, append_joined};
+pub use join::{Keyed, Meeting, Span, Walk};
 pub use slab::{Full, Table};
 
 #[cfg(test)]
 mod tests {
-    use super::{Keyed, Span, Table, Walk, append_joined};
+    use super::{Full, Keyed, Meeting, Span, Table, Walk};
 
     #[test]
     fn three_slots_take_three_entries(rt: HostRuntime) {
         let mut memory = [0u16; 3];
         let mut table = Table::new(&mut memory, 8);
-        assert_eq!(rt; table.push(5).ok(), Some(0));
-        assert_eq!(rt; table.push(6).ok(), Some(1));
+        assert_eq!(rt; table.push(5), Ok(0));
+        assert_eq!(rt; table.push(6), Ok(1));
         assert_eq!(rt; table.room(), 1);
         assert_eq!(rt; table.get(2), None);
-        assert_eq!(rt; table.push(7).ok(), Some(2));
-        assert_eq!(rt; table.push(8).ok(), None);
+        assert_eq!(rt; table.push(7), Ok(2));
+        assert_eq!(rt; table.push(8), Err(Full));
         assert!(rt; table.as_slice() == [5, 6, 7].as_slice());
     }
 
@@ -28,12 +28,25 @@ mod tests {
     fn a_limit_or_no_memory_leaves_no_room(rt: HostRuntime) {
         let mut memory = [1u16, 2];
         let mut limited = Table::new(&mut memory, 0);
-        assert_eq!(rt; limited.push(5).ok(), None);
+        assert_eq!(rt; limited.push(5), Err(Full));
         assert_eq!(rt; limited.len(), 0);
         let mut nothing: [u16; 0] = [];
         let mut table = Table::new(&mut nothing, 8);
-        assert_eq!(rt; table.push(5).ok(), None);
+        assert_eq!(rt; table.push(5), Err(Full));
         assert_eq!(rt; table.get(0), None);
+    }
+
+    #[test]
+    fn items_and_kept_entries_go_in_as_far_as_there_is_room(rt: HostRuntime) {
+        let mut memory = [0u16; 6];
+        let mut table = Table::new(&mut memory, 8);
+        table.extend((1..5).map(|x| x * 10));
+        assert!(rt; !table.is_full());
+        table.append_kept(Span { from: 1, to: 4 }, |x| *x != 30);
+        assert!(rt; table.as_slice() == [10, 20, 30, 40, 20, 40].as_slice());
+        assert!(rt; table.is_full());
+        table.append_kept(Span { from: 0, to: 6 }, |_| true);
+        assert_eq!(rt; table.len(), 6);
     }
 
     // An entry that came at some time: of two with the same key, the join has the one from the second list.
@@ -77,35 +90,23 @@ mod tests {
         ]
     }
 
-    fn next_key(walk: &mut Walk, all: &[Dated]) -> Option<u32> {
-        match walk.next(all) {
-            Some(met) => Some(met.key()),
-            None => None,
-        }
-    }
-
     #[test]
     fn two_lists_are_walked_by_rising_keys(rt: HostRuntime) {
         let all = lists();
-        let mut walk = Walk::new(Span { from: 0, to: 3 }, Span { from: 3, to: 6 });
-        assert_eq!(rt; next_key(&mut walk, &all), Some(1));
-        assert_eq!(rt; next_key(&mut walk, &all), Some(2));
-        assert_eq!(rt; next_key(&mut walk, &all), Some(3));
-        assert_eq!(rt; next_key(&mut walk, &all), Some(4));
-        assert_eq!(rt; next_key(&mut walk, &all), Some(5));
-        assert_eq!(rt; next_key(&mut walk, &all), None);
+        let mut walk = Walk::new(&all[..3], &all[3..6]).map(Meeting::key);
+        assert_eq!(rt; walk.next(), Some(1));
+        assert_eq!(rt; walk.next(), Some(2));
+        assert_eq!(rt; walk.next(), Some(3));
+        assert_eq!(rt; walk.next(), Some(4));
+        assert_eq!(rt; walk.next(), Some(5));
+        assert_eq!(rt; walk.next(), None);
     }
 
     #[test]
     fn a_join_goes_in_as_far_as_there_is_room(rt: HostRuntime) {
         let mut memory = lists();
         let mut table = Table::resume(&mut memory, 6);
-        append_joined(
-            &mut table,
-            4,
-            Span { from: 0, to: 3 },
-            Span { from: 3, to: 9 },
-        );
+        table.append_joined(4, Span { from: 0, to: 3 }, Span { from: 3, to: 9 });
         assert_eq!(rt; table.get(6), Some(item(1, 7)));
         assert_eq!(rt; table.get(7), Some(item(2, 7)));
         assert_eq!(rt; table.get(8), Some(item(3, 9)));

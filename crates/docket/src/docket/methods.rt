@@ -1,52 +1,62 @@
-ghost use Rattle.std.specs.Prelude.{◌≡◌, suc, ◌+◌, ◌<◌, ◌≤◌, true, [], ◌∷◌, length, take, nat_le, nat_lt};
-ghost use Rattle.std.specs.List.{between};
+ghost use Rattle.std.specs.Prelude.{◌≡◌, suc, ◌+◌, ◌<◌, ◌≤◌, [], ◌∷◌, length, take, true, false, MatchOption, MatchResult, OnOk};
 ghost use Rattle.table.specs.Entries.{entries, free, Grown};
 ghost use Rattle.qdimacs.specs.Kept.{sealed_formula};
 ghost use Rattle.calls.specs.Tests.{refused_by};
 ghost use Rattle.game.specs.Rules.{marks_of};
 ghost use Rattle.game.specs.Plays.{is_empty, lowest_empty};
-ghost use Rattle.calls.specs.Dockets.{all_marks, close, opened, same_size};
+ghost use Rattle.calls.specs.Dockets.{close, opened, same_size};
 ghost use Rattle.calls.specs.Runs.{Reached};
 ghost use Rattle.calls.specs.Assured.{VerdictRight};
 ghost use Rattle.formula.specs.Cuts.{last_end};
+ghost use Rattle.docket.specs.Checks.{checked, room_for};
 ghost use Rattle.docket.specs.Models.{docket_of, Leafed, Lies, Memory, numbered, Reduced};
 ghost use Rattle.docket.specs.Stored.{step_end};
 
 use super::{Docket, Verdict};
-use crate::leaves::{append_leaf, leaf_len};
-use crate::side::side_at;
-use crate::stored::{Span, StoredStep};
-use crate::tails::{append_kept, cut_of};
+use crate::leaves::append_leaf;
+use crate::side::Side;
+use crate::stored::StoredStep;
+use crate::tails::Cut;
 use formula::letter::Literal;
 use game::record::{Entry, Origin};
 use ground::Ground;
 use ground::leaves::{all_bound, rises};
-use ground::whole::Whole;
 use qdimacs::Sealed;
 use refusal::{Layer, Reason, Refusal};
-use table::Table;
+use table::{Span, Table};
 
 // A single call refuses with the place 0.
 fn refused(layer: Layer, reason: Reason) -> Refusal
     ensures { result ≡ refused_by layer reason }
 {
-    let place = 0;
     Refusal {
         reason,
         layer,
-        place,
+        place: 0,
     }
 }
 
-// Stores a step whose record ends at `end`, and tells its number.
+// A test of a call: where it fails, the call refuses.
+fn check(holds: bool, layer: Layer, reason: Reason) -> Result<(), Refusal>
+    ensures { MatchResult result (λ _. holds ≡ true) (λ e. (holds ≡ false) × (e ≡ refused_by layer reason)) }
+{
+    if holds {
+        Ok(())
+    } else {
+        Err(refused(layer, reason))
+    }
+}
+
+// Stores a step whose record ends at `end`, and tells its number. It takes the steps and not their docket, whose invariant does not hold
+// while the record's marks are in and the step is not.
 fn enter(steps: &mut Table<StoredStep>, origin: Origin, end: usize) -> u32
     requires room { 0 < length (free steps.old) }
     requires few { length (entries steps.old) + length (free steps.old) ≤ 4096 }
     ensures stored { Grown steps.old (record { origin = origin; end = end } ∷ []) steps.new }
     ensures number { result ≡ length (entries steps.old) + 1 }
 {
-    let _ = steps.push(StoredStep { origin, end });
-    steps.len() as u32
+    let place = steps.push(StoredStep { origin, end }).unwrap();
+    place as u32 + 1
 }
 
 impl<'a> Docket<'a> {
@@ -67,54 +77,44 @@ impl<'a> Docket<'a> {
         }
     }
 
-    // Whether formula, ground and docket have the same n.
-    fn same_size<G: Ground>(&self, formula: &Sealed<'_>, own_ground: &G) -> bool
-        ensures { result ≡ same_size (sealed_formula formula.now) (G.Ground.meaning own_ground.now) (docket_of self.now) }
+    // Refuses where formula, ground and docket do not have the same n.
+    fn check_sizes<G: Ground>(&self, formula: &Sealed<'_>, own_ground: &G) -> Result<(), Refusal>
+        ensures { let same = same_size (sealed_formula formula.now) (G.Ground.meaning own_ground.now) (docket_of self.now) in
+            MatchResult result (λ _. same ≡ true) (λ e. (same ≡ false) × (e ≡ refused_by Layer.Docket Reason.SizesDiffer)) }
     {
-        self.n == formula.variables() && self.n == own_ground.variables()
+        let same = self.n == formula.variables() && self.n == own_ground.variables();
+        check(same, Layer::Docket, Reason::SizesDiffer)
     }
 
-    // Whether a further step fits.
-    fn step_fits(&self) -> bool
-        ensures answer { result ≡ nat_lt (length (docket_of self.now).steps) (docket_of self.now).step_room }
-        ensures free { result ≡ true → 0 < length (free self.now.steps) }
+    // Refuses where no further step fits, or not so many further marks.
+    #[tactic(auto, using(crate::proofs::Rooms::step_fits, crate::proofs::Rooms::marks_fit))]
+    fn check_room(&self, layer: Layer, count: usize) -> Result<(), Refusal>
+        ensures answer { result ≡ checked (room_for layer (docket_of self.now) count) }
+        ensures room { OnOk result ((0 < length (free self.now.steps)) × (count ≤ length (free self.now.marks))) }
     {
-        self.steps.room() > 0
-    }
-
-    // Whether so many further marks fit.
-    fn marks_fit(&self, count: usize) -> bool
-        ensures answer { result ≡ nat_le (length (all_marks (docket_of self.now).steps) + count) (docket_of self.now).mark_room }
-        ensures free { result ≡ true → count ≤ length (free self.now.marks) }
-    {
-        count <= self.marks.room()
+        check(!self.steps.is_full(), layer, Reason::StepsFull)?;
+        check(count <= self.marks.room(), layer, Reason::MarksFull)
     }
 
     // Where the record of the step at this place begins among the marks: where that of the step before ends.
+    #[tactic(auto, using(crate::proofs::Spans::last_told))]
     fn start_of(&self, place: usize) -> usize
         requires { place ≤ length (entries self.now.steps) }
         ensures { result ≡ last_end step_end 0 (take place (entries self.now.steps)) }
     {
-        if place == 0 {
-            0
-        } else {
-            self.steps.as_slice()[place - 1].end
-        }
+        self.steps.as_slice()[..place]
+            .last()
+            .map_or(0, |step| step.end)
     }
 
     // Where the record of a step lies among the marks, if there is a step of this number.
+    #[tactic(auto, using(std::proofs::lemmas::Option::slice_get_within, crate::proofs::Spans::lies_none))]
     fn span_of(&self, step: u32) -> Option<Span>
         ensures { Lies self.now step result }
     {
-        if step == 0 {
-            return None;
-        }
-        let place = step as usize - 1;
-        let Some(stored) = self.steps.get(place) else {
-            return None;
-        };
+        let place = (step as usize).checked_sub(1)?;
+        let to = self.steps.get(place)?.end;
         let from = self.start_of(place);
-        let to = stored.end;
         Some(Span { from, to })
     }
 
@@ -128,38 +128,18 @@ impl<'a> Docket<'a> {
         ensures answer { Leafed (sealed_formula formula.now) (G.Ground.meaning own_ground.now) literals.now (docket_of self.old) result (docket_of self.new) }
         ensures memory { Memory self.old result self.new }
     {
-        if !self.same_size(formula, own_ground) {
-            return Err(refused(Layer::Docket, Reason::SizesDiffer));
-        }
-        if !all_bound(formula, literals) {
-            return Err(refused(Layer::Leaf, Reason::LeafUnbound));
-        }
-        if !rises(literals) {
-            return Err(refused(Layer::Leaf, Reason::NotRising));
-        }
-        if !own_ground.admit(literals) {
-            return Err(refused(Layer::Leaf, Reason::NotAdmitted));
-        }
-        if !self.step_fits() {
-            return Err(refused(Layer::Leaf, Reason::StepsFull));
-        }
-        if !self.marks_fit(leaf_len(literals)) {
-            return Err(refused(Layer::Leaf, Reason::MarksFull));
-        }
+        self.check_sizes(formula, own_ground)?;
+        check(
+            all_bound(formula, literals),
+            Layer::Leaf,
+            Reason::LeafUnbound,
+        )?;
+        check(rises(literals), Layer::Leaf, Reason::NotRising)?;
+        check(own_ground.admit(literals), Layer::Leaf, Reason::NotAdmitted)?;
+        self.check_room(Layer::Leaf, literals.len())?;
         append_leaf(&mut self.marks, literals);
         let end = self.marks.len();
         Ok(enter(&mut self.steps, Origin::Leaf, end))
-    }
-
-    // The marks of a span.
-    fn part(&self, span: Span) -> &[Entry]
-        requires forward { span.from ≤ span.to }
-        requires within { span.to ≤ length (entries self.now.marks) }
-        ensures { result.now ≡ between span.from span.to (entries self.now.marks) }
-    {
-        let marks = self.marks.as_slice();
-        let Span { from, to } = span;
-        &marks[from..to]
     }
 
     // Enters the parent's record without its tail, and tells the step's number; or refuses, and alters nothing.
@@ -172,29 +152,23 @@ impl<'a> Docket<'a> {
         ensures answer { Reduced (sealed_formula formula.now) (G.Ground.meaning own_ground.now) parent (docket_of self.old) result (docket_of self.new) }
         ensures memory { Memory self.old result self.new }
     {
-        if !self.same_size(formula, own_ground) {
-            return Err(refused(Layer::Docket, Reason::SizesDiffer));
-        }
-        let Some(span) = self.span_of(parent) else {
-            return Err(refused(Layer::Reduce, Reason::NotEarlier));
-        };
-        let side = side_at(formula, own_ground);
-        let cut = cut_of(&side, self.part(span));
-        if !cut.some_go {
-            return Err(refused(Layer::Reduce, Reason::EmptyTail));
-        }
-        if !self.step_fits() {
-            return Err(refused(Layer::Reduce, Reason::StepsFull));
-        }
-        if !self.marks_fit(cut.stay) {
-            return Err(refused(Layer::Reduce, Reason::MarksFull));
-        }
-        append_kept(&side, cut.ceiling, &mut self.marks, span.from, span.to);
+        self.check_sizes(formula, own_ground)?;
+        let span = self
+            .span_of(parent)
+            .ok_or(refused(Layer::Reduce, Reason::NotEarlier))?;
+        let record = span.of(self.marks.as_slice());
+        let cut = Cut::of(Side::of(formula, own_ground), record);
+        let stay = cut.kept_len(record);
+        check(stay < record.len(), Layer::Reduce, Reason::EmptyTail)?;
+        self.check_room(Layer::Reduce, stay)?;
+        self.marks
+            .append_kept(span, |entry| cut.keeps(entry.variable));
         let end = self.marks.len();
         Ok(enter(&mut self.steps, Origin::Reduce { parent }, end))
     }
 
     // Whether the record of the step at this place is empty.
+    #[tactic(auto, using(crate::proofs::Closing::empty_at))]
     fn is_empty_at(&self, place: usize) -> bool
         requires { place < length (entries self.now.steps) }
         ensures { result ≡ is_empty (marks_of (docket_of self.now).steps (suc place)) }
@@ -202,16 +176,12 @@ impl<'a> Docket<'a> {
         self.start_of(place) == self.steps.as_slice()[place].end
     }
 
-    // The number of the lowest step with an empty record; 0 where there is none.
-    fn lowest_empty(&self) -> u32
-        ensures { result ≡ lowest_empty (docket_of self.now).steps }
+    // The number of the lowest step with an empty record, if there is one.
+    fn lowest_empty(&self) -> Option<u32>
+        ensures { MatchOption result (lowest_empty (docket_of self.now).steps ≡ 0) (λ k. (0 < k) × (lowest_empty (docket_of self.now).steps ≡ k)) }
     {
-        for place in 0..self.steps.len() {
-            if self.is_empty_at(place) {
-                return place as u32 + 1;
-            }
-        }
-        0
+        let place = (0..self.steps.len()).find(|place| self.is_empty_at(*place))?;
+        Some(place as u32 + 1)
     }
 
     // The lowest step with an empty record, or a refusal.
@@ -222,13 +192,10 @@ impl<'a> Docket<'a> {
     ) -> Result<Verdict, Refusal>
         ensures { (numbered result, docket_of self.now) ≡ close (sealed_formula formula.now) (G.Ground.meaning own_ground.now) (docket_of self.now) }
     {
-        if !self.same_size(formula, own_ground) {
-            return Err(refused(Layer::Docket, Reason::SizesDiffer));
-        }
-        let step = self.lowest_empty();
-        if step == 0 {
-            return Err(refused(Layer::Close, Reason::NoEmptyRecord));
-        }
+        self.check_sizes(formula, own_ground)?;
+        let step = self
+            .lowest_empty()
+            .ok_or(refused(Layer::Close, Reason::NoEmptyRecord))?;
         Ok(Verdict { step })
     }
 

@@ -1,63 +1,47 @@
-ghost use Rattle.std.specs.Prelude.{◌≡◌, ◌-◌, ◌≤◌};
-ghost use Rattle.std.specs.List.{slice_get};
-ghost use Rattle.table.specs.Joins.{below, part, past, Stepped};
+ghost use Rattle.std.specs.Prelude.{◌≡◌, ⊤};
+ghost use Rattle.std.specs.Iterator.{MakesProgress, YieldsFirst, item_count};
+ghost use Rattle.table.specs.Joins.{ahead, part, Stepped};
 
 use super::meets::meet;
 use super::{Keyed, Meeting, Span, Walk};
 
 impl Span {
-    // The places of it that are below `len`.
-    pub fn below(self, len: usize) -> Span
-        ensures { result ≡ below len self }
-    {
-        Span {
-            from: self.from,
-            to: self.to.min(len),
-        }
-    }
-
-    // The first entry of the part that it names.
-    fn head<T: Copy>(self, all: &[T]) -> Option<T>
-        ensures { result ≡ slice_get (part self all.now) 0 }
+    // The part of a list that it names: shorter where the list ends before the span does, and empty where the span is backward.
+    pub fn of<T>(self, all: &[T]) -> &[T]
+        ensures { result.now ≡ part self all.now }
     {
         let end = self.to.min(all.len());
-        if self.from < end {
-            Some(all[self.from])
-        } else {
-            None
-        }
-    }
-
-    // The places of it but for the first `n`.
-    fn past(self, n: usize) -> Span
-        requires { n ≤ self.to - self.from }
-        ensures { result ≡ past n self }
-    {
-        Span {
-            from: self.from + n,
-            to: self.to,
-        }
+        all.get(self.from..end).unwrap_or(&[])
     }
 }
 
-impl Walk {
-    // A walk over the two parts, from their beginning.
-    pub fn new(first: Span, second: Span) -> Walk
-        ensures first { result.first ≡ first }
-        ensures second { result.second ≡ second }
+impl<'a, T> Walk<'a, T> {
+    // A walk over the two lists, from their beginning.
+    pub fn new(first: &'a [T], second: &'a [T]) -> Walk<'a, T>
+        ensures first { result.first.now ≡ first.now }
+        ensures second { result.second.now ≡ second.now }
     {
         Walk { first, second }
     }
+}
 
-    // The next meeting of the two parts of the list `all`, if there is one.
-    pub fn next<T: Keyed>(&mut self, all: &[T]) -> Option<Meeting<T>>
-        ensures { Stepped T.Keyed.key all.now self.old result self.new }
+impl<'a, T: Keyed> Iterator for Walk<'a, T> {
+    type Item = Meeting<T>;
+
+    ghost next_gives = { YieldsFirst (ahead T.key) };
+
+    ghost remaining = { item_count (ahead T.key) };
+
+    // The next meeting of the two lists, if there is one.
+    fn next(&mut self) -> Option<Meeting<T>>
+        ensures steps { YieldsFirst (ahead T.key) self.old result self.new }
+        ensures goes { MakesProgress (λ _. ⊤) (item_count (ahead T.key)) self.old result self.new }
+        ensures stepped { Stepped T.key self.old result self.new }
     {
-        let Some(met) = meet(self.first.head(all), self.second.head(all)) else {
-            return None;
-        };
-        self.first = self.first.past(met.of_first());
-        self.second = self.second.past(met.of_second());
+        let met = meet(self.first.first().copied(), self.second.first().copied())?;
+        let (first, second) = met.takes();
+        self.first = &self.first[first..];
+        self.second = &self.second[second..];
         Some(met)
     }
 }

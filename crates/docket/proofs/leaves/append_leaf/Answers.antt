@@ -1,10 +1,12 @@
-use Rattle.docket.proofs.Leaf.{marked_next, marked_all}
+use Rattle.std.proofs.Common.{map, rules}
+use Rattle.std.proofs.lemmas.Iterator.{YieldsList-from_slice, YieldsList-from_map}
+use Rattle.std.proofs.lemmas.Iterator.Consumers.{YieldsList-at}
+use Rattle.game.specs.Leaves.{entry_from}
+use Rattle.docket.proofs.Leaf.{marked_map}
 use Rattle.docket.proofs.leaves.append_leaf.Goals as goal
 
-pub loop-literal-preserved : goal.loop-literal-preserved
-loop-literal-preserved c =
-    marked_next c.args.literals.now c.loop-literal.literal-index c.loop-literal.invariant c.requires _ c.mark_from-mark.ensures c.push.ensures
-    c.loop-literal-test.true
-
 pub returns : goal.returns
-returns c = marked_all c.args.literals.now c.loop-literal.literal-index c.loop-literal.invariant c.requires c.loop-literal-test.false
+returns c =
+    rw marked_map
+    (c.extend.ensures.grown (map entry_from c.args.literals.now)
+    (YieldsList-from_map _ entry_from (YieldsList-at c.map.ensures.source (YieldsList-from_slice _ c.iter.ensures.rest)) c.map.ensures.closure (λ x r q k. search rules)).runs)
