@@ -47,8 +47,8 @@ module _ {T : Type 0} (before : Table T) {used : ℕ} (counts : used ≡ length 
   -- where those are filled by what is made of the entries, and the entries kept, it has grown
   pub grown_filled : {after : Table T} (new : List T → List T) {n : ℕ} → take used after.slots.now ≡ take used before.slots.now
       → Filled (drop used before.slots.now) (new (take used before.slots.now)) n (drop used after.slots.now) → after.len ≡ used + n
-      → Grown before (take (length (free before)) (new (entries before))) after
-  grown_filled {after} new {n} same fills longer =
+      → after.slots.ghost_name ≡ before.slots.ghost_name → Grown before (take (length (free before)) (new (entries before))) after
+  grown_filled {after} new {n} same fills longer stays =
       let all : Filled (free before) (new (entries before)) n (drop used after.slots.now)
       = subst (λ l. Filled l (new (entries before)) n (drop used after.slots.now)) unused
       (subst (λ l. Filled (drop used before.slots.now) (new l) n (drop used after.slots.now)) held fills) in
@@ -59,4 +59,5 @@ module _ {T : Type 0} (before : Table T) {used : ℕ} (counts : used ≡ length 
         rest =
             ap (λ k. drop k after.slots.now) longer ∙ sym (drop-drop n used after.slots.now) ∙ all.rest
             ∙ ap (λ k. drop k (free before)) all.count;
+        stays = stays;
       }

@@ -16,6 +16,8 @@ module _ {T : Type 0} where
   pub record Grown (before : Table T) (new : List T) (after : Table T) : Type 0 where
     pub longer : entries after ≡ entries before ++ new
     pub rest : free after ≡ drop (length new) (free before)
+    -- the slots are the same memory, so that their owner learns what they hold
+    pub stays : after.slots.ghost_name ≡ before.slots.ghost_name
 
   -- the first n slots hold what there was of `new`, as far as there were slots, and no other slot has changed
   pub record Filled (before new : List T) (n : ℕ) (after : List T) : Type 0 where
@@ -23,10 +25,11 @@ module _ {T : Type 0} where
     pub written : take n after ≡ take (length before) new
     pub rest : drop n after ≡ drop n before
 
-  -- no slot has changed
+  -- no slot has changed, and they are the same memory
   pub record Same (before after : Table T) : Type 0 where
     pub kept : entries after ≡ entries before
     pub rest : free after ≡ free before
+    pub stays : after.slots.ghost_name ≡ before.slots.ghost_name
 
   -- What a call of `push` does: where a slot is free, x is the new last entry and the result is its place;
   -- where none is, the call refuses and nothing has changed.
@@ -35,5 +38,3 @@ module _ {T : Type 0} where
         MatchResult r
         (λ i. (0 < length (free before)) × (i ≡ length (entries before)) × Grown before (x ∷ []) after)
         (λ _. (free before ≡ []) × Same before after)
-    -- the slots are the same memory, so that their owner learns what they hold
-    pub stays : after.slots.ghost_name ≡ before.slots.ghost_name

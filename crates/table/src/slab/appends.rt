@@ -12,8 +12,7 @@ impl<'a, T: Copy> Table<'a, T> {
     pub fn extend<I: Iterator<Item = T>>(&mut self, items: I)
         requires can { I.can_next items }
         requires ends { IsFinite (I.remaining items) }
-        ensures grown { (all : List T) → AlwaysYields I.next_gives (λ x. x) items all → Grown self.old (take (length (free self.old)) all) self.new }
-        ensures stays { self.new.slots.ghost_name ≡ self.old.slots.ghost_name }
+        ensures { (all : List T) → AlwaysYields I.next_gives (λ x. x) items all → Grown self.old (take (length (free self.old)) all) self.new }
     {
         let used = self.len();
         self.len = used + fill(&mut self.slots[used..], items);
@@ -22,8 +21,7 @@ impl<'a, T: Copy> Table<'a, T> {
     // Appends the entries of a part of the table that pass the test, as far as there is room.
     pub fn append_kept<F: FnMut(&T) -> bool>(&mut self, span: Span, keep: F)
         requires { (state : F) (x : _) → F.pre state x }
-        ensures grown { (test : T → Bool) → ActsAsAt F.FnMut keep test → Grown self.old (take (length (free self.old)) (filter test (part span (entries self.old)))) self.new }
-        ensures stays { self.new.slots.ghost_name ≡ self.old.slots.ghost_name }
+        ensures { (test : T → Bool) → ActsAsAt F.FnMut keep test → Grown self.old (take (length (free self.old)) (filter test (part span (entries self.old)))) self.new }
     {
         let used = self.len();
         self.len = used + fill_kept(self.slots, used, span, keep);
@@ -33,8 +31,7 @@ impl<'a, T: Copy> Table<'a, T> {
 impl<'a, T: Keyed> Table<'a, T> {
     // Appends the join of two parts of the table, but for the key `without`, as far as there is room.
     pub fn append_joined(&mut self, without: u32, first: Span, second: Span)
-        ensures grown { Grown self.old (take (length (free self.old)) (join_but T.key T.joined without (part first (entries self.old)) (part second (entries self.old)))) self.new }
-        ensures stays { self.new.slots.ghost_name ≡ self.old.slots.ghost_name }
+        ensures { Grown self.old (take (length (free self.old)) (join_but T.key T.joined without (part first (entries self.old)) (part second (entries self.old)))) self.new }
     {
         let used = self.len();
         self.len = used + fill_joined(self.slots, used, without, first, second);
