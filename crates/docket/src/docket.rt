@@ -10,7 +10,10 @@ use game::record::Entry;
 use table::Table;
 
 // A docket: the growing list of the steps of a trace, each with its record. It stands on memory that the caller lends for steps and
-// for marks, and holds at most 4,096 and 16,384 of them, or fewer as the memory allows.
+// for marks, and holds at most 4,096 and 16,384 of them, or fewer as the memory allows. A step names its parents by number and its record
+// by where it ends among the marks, since lent memory has no place for boxes.
+//
+// Formula and ground come side by side with each call and are not kept in one struct: any two may come, and a call tests whether they fit.
 #[derive(Drop)]
 pub struct Docket<'a> {
     n: usize,

@@ -15,7 +15,7 @@ pub(crate) struct Cut<'a> {
 }
 
 impl<'a> Cut<'a> {
-    // The ceiling is the highest level of an opponent's variable in the record; 0 where it has none.
+    // The ceiling is the highest level of an opponent's variable in the record; 0 where it has none, which is below each level of a block.
     pub(crate) fn of(side: Side<'a>, marks: &[Entry]) -> Cut<'a>
         ensures side { seen result.side ≡ seen side.entry }
         ensures ceiling { result.ceiling ≡ highest (seen result.side) marks.now }

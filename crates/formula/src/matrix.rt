@@ -11,7 +11,8 @@ use crate::limits::{MARKS, MOST_LITERALS, MOST_ROWS};
 use crate::sections::Sections;
 use refusal::Reason;
 
-// The rows are sections of the literals. `seen` has for each variable the number of the last row that named it.
+// The rows are sections of the literals. `seen` has for each variable the number of the last row that named it: a table by
+// variable in place of a map, since a formula has fixed memory and no heap.
 #[derive(Drop)]
 pub struct Matrix {
     due: usize,
