@@ -1,7 +1,6 @@
 -- Where the record of a step lies.
-use Rattle.std.proofs.Common.{◌≡◌, ℕ, zero, suc, ◌+◌, ◌-◌, ◌≤◌, leb, List, [], ◌∷◌, length, get_or, take, Some, None, refl, sym, ap, ◌∙◌, pred, arith}
+use Rattle.std.proofs.Common.{◌≡◌, ℕ, zero, suc, ◌+◌, ◌≤◌, leb, List, [], ◌∷◌, length, get_or, take, Some, None, sym, ap, ◌∙◌, pred, arith}
 use Rattle.std.specs.List.{between, slice_get}
-use Rattle.std.specs.Option.{option_map_or}
 use Rattle.std.proofs.lemmas.Option.{slice_get-get_or, slice_get_within, get_or_from_slice_get}
 use Rattle.std.proofs.lemmas.Bool.{and_from, and_right, le-leb, lt-leb}
 use Rattle.formula.specs.Cuts.{last_end}
@@ -20,16 +19,6 @@ nth_none : {X : Type 0} (xs : List X) (k : ℕ) → slice_get xs k ≡ None → 
 nth_none [] k is = omega arith
 nth_none (x ∷ xs) zero is = let z : ◌≡◌ {A = ℕ} 0 1 = cc in absurd (omega arith)
 nth_none (x ∷ xs) (suc k) is = omega (arith, nth_none xs k is)
-
--- where the last record ends, the last step tells
-last_more : (at : ℕ) (s : StoredStep) (stored : List StoredStep) → last_end step_end s.end stored ≡ option_map_or step_end (slice_get (s ∷ stored) (length stored)) at
-last_more at s [] = refl
-last_more at s (t ∷ stored) = last_more at t stored
-
-pub last_told : (at : ℕ) (stored : List StoredStep) → last_end step_end at stored ≡ option_map_or step_end (slice_get stored (length stored - 1)) at
-last_told at [] = refl
-last_told at (s ∷ stored) =
-    last_more at s stored ∙ ap (λ n. option_map_or step_end (slice_get (s ∷ stored) n) at) {x = length stored} {y = suc (length stored) - 1} (omega arith)
 
 module _ (stored : List StoredStep) (marks : List Entry) (lie : StepsLie stored (length marks)) (k : ℕ) (s : StoredStep) (is : slice_get stored k ≡ Some s) where
   -- the step at place k

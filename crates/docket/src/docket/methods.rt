@@ -97,7 +97,7 @@ impl<'a> Docket<'a> {
     }
 
     // Where the record of the step at this place begins among the marks: where that of the step before ends.
-    #[tactic(auto, using(crate::proofs::Spans::last_told))]
+    #[tactic(auto, using(formula::proofs::Parts::last_or))]
     fn start_of(&self, place: usize) -> usize
         requires { place ≤ length (entries self.now.steps) }
         ensures { result ≡ last_end step_end 0 (take place (entries self.now.steps)) }
