@@ -5,12 +5,13 @@ ghost use Rattle.game.specs.Grounds.{has_literal, leaf_over, some_literal};
 ghost use Rattle.game.specs.Leaves.{each_literal};
 ghost use Rattle.ground.specs.Signs.{has_sign};
 
-use crate::leaves::is_leaf;
+use crate::leaves::{all_bound, rises};
 use crate::whole::Whole;
 use formula::letter::Literal;
 use formula::limits::MARKS;
 
-// For each variable the sign that the leaf gives it, none where the leaf does not name it.
+// For each variable the sign that the leaf gives it, none where the leaf does not name it. An array by variable and no map, since a ground has no
+// heap.
 #[derive(Drop)]
 pub(crate) struct Signs {
     by_variable: [Option<bool>; MARKS],
@@ -22,7 +23,7 @@ impl Signs {
         ensures leaf { is_some result ≡ leaf_over (F.Whole.formula formula.now) leaf.now }
         ensures told { IfSome result (λ signs. (l : Literal) → has_sign signs l ≡ has_literal leaf.now l) }
     {
-        if !is_leaf(formula, leaf) {
+        if !all_bound(formula, leaf) || !rises(leaf) {
             return None;
         }
         let mut by_variable = [None; MARKS];

@@ -31,7 +31,7 @@ pub enum Phase {
     Row,
 }
 
-// What a word does.
+// What a word does. A value and no closure: the definitions tell what a word does apart from the doing, and no function hands out a closure.
 #[derive(Clone, Copy)]
 pub enum Move {
     Problem,

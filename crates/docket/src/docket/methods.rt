@@ -56,6 +56,7 @@ fn enter(steps: &mut Table<StoredStep>, origin: Origin, end: usize) -> u32
     ensures number { result ≡ length (entries steps.old) + 1 }
 {
     let place = steps.push(StoredStep { origin, end }).unwrap();
+    // at most 4,096, so the cast loses nothing
     place as u32 + 1
 }
 
@@ -181,6 +182,7 @@ impl<'a> Docket<'a> {
         ensures { MatchOption result (lowest_empty (docket_of self.now).steps ≡ 0) (λ k. (0 < k) × (lowest_empty (docket_of self.now).steps ≡ k)) }
     {
         let place = (0..self.steps.len()).find(|place| self.is_empty_at(*place))?;
+        // at most 4,096, so the cast loses nothing
         Some(place as u32 + 1)
     }
 
