@@ -34,7 +34,7 @@ impl<'a> Side<'a> {
         self.formula.owner(variable) == Some(self.own)
     }
 
-    // The place of the variable's block, from 1; 0 where it is unbound.
+    // The place of the variable's block, from 1; 0 where it is unbound: a number for the rules to compare, as in the prefix.
     pub(crate) fn level(&self, variable: u32) -> usize
         ensures { result ≡ (seen self.now).level variable }
     {

@@ -16,6 +16,7 @@ pub(crate) struct Cut<'a> {
 
 impl<'a> Cut<'a> {
     // The ceiling is the highest level of an opponent's variable in the record; 0 where it has none, which is below each level of a block.
+    // The rule compares it with levels, so an `Option` would be turned into that 0.
     pub(crate) fn of(side: Side<'a>, marks: &[Entry]) -> Cut<'a>
         ensures side { seen result.side ≡ seen side.entry }
         ensures ceiling { result.ceiling ≡ highest (seen result.side) marks.now }

@@ -12,7 +12,8 @@ use crate::sections::Sections;
 use refusal::Reason;
 
 // The blocks are sections of the variables as they were bound. `levels` has for each variable its level so far, 0 where
-// it is unbound: a table by variable in place of a map, since a formula has fixed memory and no heap.
+// it is unbound: a table by variable in place of a map, since a formula has fixed memory and no heap, and levels as numbers, since the
+// rules compare them (an unbound variable's is below those of all blocks), so that an `Option` would be turned into 0 at each use.
 #[derive(Drop)]
 pub struct Prefix {
     variables: usize,
@@ -161,7 +162,6 @@ impl Prefix {
     }
 
     // A variable's level, the place of its block from 1; 0 where no complete block has it. In constant time.
-    // The number serves, and no `Option`: rules compare levels, and an unbound variable's is below those of all blocks.
     #[tactic(auto, using(crate::proofs::Blocks::mark_low, crate::proofs::Blocks::mark_high))]
     pub fn level(&self, variable: u32) -> usize
         ensures value { result ≡ level_of (prefix_of self.now).blocks variable }

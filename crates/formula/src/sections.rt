@@ -14,7 +14,7 @@ pub(crate) struct End<H> {
     end: usize,
 }
 
-// The items stand one section after another, and `ends` tells of each complete section. What stands behind the complete
+// With no heap, all sections share one room: the items stand one section after another, and `ends` tells of each complete section. What stands behind the complete
 // sections is the section that is begun.
 #[derive(Drop)]
 pub(crate) struct Sections<H, X, const MOST: usize, const ROOM: usize> {

@@ -8,6 +8,7 @@ use std::alloc::{AllocError, Global};
 use std::str::from_utf8;
 use std::{fs, io};
 
+// `to_digit` would take capitals too.
 fn hex_digit(b: u8) -> Option<u8>
     ensures { IfSome result (λ d. d < 16) }
 {

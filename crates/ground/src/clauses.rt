@@ -13,6 +13,7 @@ use crate::signs::Signs;
 use crate::whole::Whole;
 use formula::letter::{Letter, Literal};
 
+// Clauses and cubes are two types, and no parameter of one: they differ in what they admit, in what is won, and in their law's proof.
 #[derive(Clone, Copy)]
 pub struct Clauses<F> {
     pub formula: F,

@@ -32,7 +32,8 @@ pub trait Ground {
     ghost sound: { (g : Self) → KeepsLaw (meaning g) };
 }
 
-// A ground that can tell of a finished play whether it is won.
+// A ground that can tell of a finished play whether it is won. A play is the bytes of a board, one a variable, as the definition of its
+// values reads them: a type with fewer values would ask more of callers.
 pub trait JudgingGround: Ground {
     fn judge(&self, play: &[u8]) -> bool
         ensures { result ≡ (Self.Ground.meaning self.now).won play.now };

@@ -15,7 +15,7 @@ pub fn all_bound<F: Whole>(formula: &F, leaf: &[Literal]) -> bool
         .all(|literal| formula.owner(literal.variable).is_some())
 }
 
-// Whether the variables rise strictly, from 1 on.
+// Whether the variables rise strictly, from 1 on. Written out: as a chain that is sorted, from 0 on, it was tried and the proof did not close.
 #[tactic(auto, unfolding(game::specs::Leaves::rising))]
 pub fn rises(leaf: &[Literal]) -> bool
     ensures { result ≡ rising 0 leaf.now }

@@ -20,7 +20,7 @@ pub trait Keyed: Copy {
 }
 
 // What a walk over two sorted lists meets next: an entry of the first list alone, one of the second alone, or one of each with
-// the same key.
+// the same key. A type of its own, since it needs methods over `Keyed`.
 #[derive(Clone, Copy, Debug, PartialEq)]
 pub enum Meeting<T> {
     First(T),

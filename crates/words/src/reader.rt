@@ -12,6 +12,8 @@ fn is_separator(b: &u8) -> bool
     matches!(*b, b' ' | b'\t' | b'\r' | b'\n')
 }
 
+// The next three differ in their tests; with the test as a parameter their contracts would have to speak of what a closure answers.
+
 // The bytes from the first word on.
 fn from_word(bytes: &[u8]) -> &[u8]
     ensures { result.now ≡ from_word bytes.now }

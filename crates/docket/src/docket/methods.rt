@@ -25,7 +25,7 @@ use qdimacs::Sealed;
 use refusal::{Layer, Reason, Refusal};
 use table::{Span, Table};
 
-// A single call refuses with the place 0.
+// A single call refuses with the place 0. Layer and reason come as two words with each test: a struct of both would be written out at each.
 fn refused(layer: Layer, reason: Reason) -> Refusal
     ensures { result ≡ refused_by layer reason }
 {
@@ -186,7 +186,7 @@ impl<'a> Docket<'a> {
         Some(place as u32 + 1)
     }
 
-    // The lowest step with an empty record, or a refusal.
+    // The lowest step with an empty record, or a refusal. Apart from `close`, so that the answer is proved once, path by path, and then said twice.
     fn lowest_verdict<G: Ground>(
         &self,
         formula: &Sealed<'_>,

@@ -73,7 +73,7 @@ impl<'a> Sealed<'a> {
         self.formula.draft.prefix().blocks()
     }
 
-    // A variable's level, the place of its block from 1; 0 where it is unbound.
+    // A variable's level, the place of its block from 1; 0 where it is unbound: a number for the rules to compare, as in the prefix.
     pub fn level(&self, variable: u32) -> usize
         ensures { result ≡ level_of (sealed_formula self.now).blocks variable }
     {

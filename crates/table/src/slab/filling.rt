@@ -6,7 +6,7 @@ ghost use Rattle.table.specs.Joins.{join_but, part};
 use crate::join::{Keyed, Meeting, Span, Walk};
 
 // Writes what the iterator gives into the slots, from the first on, as far as there are slots, and tells how many it filled.
-// The place is the answer too, so it is counted by hand: a `zip` with the slots would count beside it.
+// The place is counted by hand: of what the closure of a chain writes into the slots, a proof knows nothing afterwards.
 pub(super) fn fill<T: Copy, I: Iterator<Item = T>>(slots: &mut [T], items: I) -> usize
     requires can { I.can_next items }
     requires ends { IsFinite (I.remaining items) }
