@@ -5,6 +5,21 @@ use Rattle.refusal.specs.declared.Refusal.{Refusal}
 use Rattle.calls.specs.Tests.{Told, Test, tested, AllHold}
 use Rattle.docket.specs.Checks.{checked}
 
+-- checks one after another
+pub checked_on : (us vs : List Test) {u : Unit {0}} → checked us ≡ Ok u → checked (us ++ vs) ≡ checked vs
+checked_on [] vs is = refl
+checked_on (t ∷ us) vs is = elim (cases_Bool t.holds) [
+  | inl h ↦ rw h (checked_on us vs (rw h at is))
+  | inr h ↦ let z : ◌≡◌ {A = ℕ} 0 1 = cc in absurd (omega arith)
+]
+
+pub checked_out : (us vs : List Test) {e : Refusal} → checked us ≡ Err e → checked (us ++ vs) ≡ Err e
+checked_out [] vs is = let z : ◌≡◌ {A = ℕ} 0 1 = cc in absurd (omega arith)
+checked_out (t ∷ us) vs is = elim (cases_Bool t.holds) [
+  | inl h ↦ rw h (checked_out us vs (rw h at is))
+  | inr h ↦ rw h (rw h at is)
+]
+
 module _ {A State : Type 0} (s : State) (done : Told A State) where
   -- where it refuses, so does the call
   refuses : (us : List Test) (e : Refusal) → checked us ≡ Err e → (Err e, s) ≡ tested us s done

@@ -10,3 +10,5 @@ mod Reducing
 mod Closing
 mod Verdicts
 mod Looking
+mod Joining
+mod Clashing

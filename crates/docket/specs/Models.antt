@@ -1,5 +1,5 @@
 -- What a docket of the code is, apart from where it lies; and what a call leaves in memory.
-use Rattle.std.specs.Prelude.{◌≡◌, ℕ, ◌+◌, ◌≤◌, true, false, List, [], ◌∷◌, length, Ok, Err, Option, Result, MatchOption, MatchResult}
+use Rattle.std.specs.Prelude.{◌≡◌, ℕ, ◌+◌, ◌≤◌, true, false, ◌&&◌, List, [], ◌∷◌, length, Ok, Err, Option, Result, MatchOption, MatchResult}
 use Rattle.std.specs.List.{between}
 use Rattle.refusal.specs.declared.Refusal.{Refusal}
 use Rattle.table.specs.declared.join.Span.{Span}
@@ -39,6 +39,10 @@ pub record LiesIn (d : Docket) (k : ℕ) (s : Span) : Type 0 where
 -- where the record of step k lies, if the docket has such a step
 pub record Lies (d : Docket) (k : ℕ) (r : Option Span) : Type 0 where
   pub cases : MatchOption r (model.has_step (docket_of d) k ≡ false) (LiesIn d k)
+
+-- where the records of steps i and j lie, if the docket has both
+pub record LieBoth (d : Docket) (i j : ℕ) (r : Option (Span × Span)) : Type 0 where
+  pub cases : MatchOption r ((model.has_step (docket_of d) i && model.has_step (docket_of d) j) ≡ false) (λ w. LiesIn d i w.0 × LiesIn d j w.1)
 
 -- one stored step and some marks more, each in what was the first free place, and no other place has changed
 pub record Longer (before after : Docket) : Type 0 where

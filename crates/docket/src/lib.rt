@@ -4,6 +4,8 @@
 mod docket;
 mod leaves;
 mod look;
+mod parents;
+mod refusing;
 mod side;
 mod stored;
 mod tails;

@@ -21,6 +21,9 @@ joined_mark Star Plus = Star
 joined_mark Star Minus = Star
 joined_mark Star Star = Star
 
+abbrev pub joined_entry : Entry → Entry → Entry
+joined_entry e d = record { variable = e.variable; mark = joined_mark e.mark d.mark }
+
 -- Two rising records in one. `merge_from e rest s` puts e, and what `rest` makes of the first record's later entries, in among s.
 unfoldable pub merge_from : Entry → (Record → Record) → Record → Record
 merge_from e rest [] = e ∷ rest []

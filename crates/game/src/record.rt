@@ -1,8 +1,10 @@
 // What a step of a derivation says, as it is kept: the marks of its record, and how the step came.
 ghost use Rattle.std.specs.Prelude.{◌≡◌};
+ghost use Rattle.game.specs.Functions.{joined_entry};
 ghost use Rattle.game.specs.Leaves.{entry_from};
 
 use formula::letter::Literal;
+use table::Keyed;
 
 // The mark of a variable in a record. Plus and minus are the plain marks: the variable stands there with that sign. Star says that
 // the sign depends on the play; only own variables are marked so.
@@ -32,6 +34,28 @@ impl From<Literal> for Entry {
             } else {
                 Mark::Minus
             },
+        }
+    }
+}
+
+// Records are sorted by variable. Where both parents of a resolve name a variable, the same plain mark stays, and any two others become star.
+impl Keyed for Entry {
+    ghost key = { λ e. e.variable };
+
+    ghost joined = { joined_entry };
+
+    fn key(self) -> u32 {
+        self.variable
+    }
+
+    fn joined(self, other: Entry) -> Entry {
+        if self.mark == other.mark {
+            self
+        } else {
+            Entry {
+                variable: self.variable,
+                mark: Mark::Star,
+            }
         }
     }
 }

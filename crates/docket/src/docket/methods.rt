@@ -9,11 +9,13 @@ ghost use Rattle.calls.specs.Runs.{Reached};
 ghost use Rattle.calls.specs.Assured.{VerdictRight};
 ghost use Rattle.formula.specs.Cuts.{last_end};
 ghost use Rattle.docket.specs.Checks.{checked, room_for};
-ghost use Rattle.docket.specs.Models.{docket_of, Leafed, Lies, Memory, numbered, Reduced};
+ghost use Rattle.docket.specs.Models.{docket_of, Leafed, LieBoth, Lies, Memory, numbered, Reduced, Resolved};
 ghost use Rattle.docket.specs.Stored.{step_end};
 
 use super::{Docket, Verdict};
 use crate::leaves::append_leaf;
+use crate::parents::Parents;
+use crate::refusing::{check, refused};
 use crate::side::Side;
 use crate::stored::StoredStep;
 use crate::tails::Cut;
@@ -24,28 +26,6 @@ use ground::leaves::{all_bound, rises};
 use qdimacs::Sealed;
 use refusal::{Layer, Reason, Refusal};
 use table::{Span, Table};
-
-// A single call refuses with the place 0. Layer and reason come as two words with each test: a struct of both would be written out at each.
-fn refused(layer: Layer, reason: Reason) -> Refusal
-    ensures { result ≡ refused_by layer reason }
-{
-    Refusal {
-        reason,
-        layer,
-        place: 0,
-    }
-}
-
-// A test of a call: where it fails, the call refuses.
-fn check(holds: bool, layer: Layer, reason: Reason) -> Result<(), Refusal>
-    ensures { MatchResult result (λ _. holds ≡ true) (λ e. (holds ≡ false) × (e ≡ refused_by layer reason)) }
-{
-    if holds {
-        Ok(())
-    } else {
-        Err(refused(layer, reason))
-    }
-}
 
 // Stores a step whose record ends at `end`, and tells its number. It takes the steps and not their docket, whose invariant does not hold
 // while the record's marks are in and the step is not.
@@ -58,6 +38,15 @@ fn enter(steps: &mut Table<StoredStep>, origin: Origin, end: usize) -> u32
     let place = steps.push(StoredStep { origin, end }).unwrap();
     // at most 4,096, so the cast loses nothing
     place as u32 + 1
+}
+
+impl Verdict {
+    // The number of the step that has the empty record.
+    pub fn step(self) -> u32
+        ensures { result ≡ self.step }
+    {
+        self.step
+    }
 }
 
 impl<'a> Docket<'a> {
@@ -119,6 +108,13 @@ impl<'a> Docket<'a> {
         Some(Span { from, to })
     }
 
+    // Where the records of two steps lie, if there are steps of both numbers.
+    fn spans_of(&self, first: u32, second: u32) -> Option<(Span, Span)>
+        ensures { LieBoth self.now first second result }
+    {
+        Some((self.span_of(first)?, self.span_of(second)?))
+    }
+
     // Enters a leaf that the ground admits, and tells its number; or refuses, and alters nothing.
     pub fn leaf<G: Ground>(
         &mut self,
@@ -141,6 +137,41 @@ impl<'a> Docket<'a> {
         append_leaf(&mut self.marks, literals);
         let end = self.marks.len();
         Ok(enter(&mut self.steps, Origin::Leaf, end))
+    }
+
+    // Enters what two parents come to, resolved on the pivot, and tells the step's number; or refuses, and alters nothing.
+    pub fn resolve<G: Ground>(
+        &mut self,
+        formula: &Sealed<'_>,
+        own_ground: &G,
+        pivot: u32,
+        first: u32,
+        second: u32,
+    ) -> Result<u32, Refusal>
+        ensures answer { Resolved (sealed_formula formula.now) (G.Ground.meaning own_ground.now) pivot first second (docket_of self.old) result (docket_of self.new) }
+        ensures memory { Memory self.old result self.new }
+    {
+        self.check_sizes(formula, own_ground)?;
+        let spans = self
+            .spans_of(first, second)
+            .ok_or(refused(Layer::Resolve, Reason::NotEarlier))?;
+        let marks = self.marks.as_slice();
+        let parents = Parents {
+            side: Side::of(formula, own_ground),
+            pivot,
+            first: spans.0.of(marks),
+            second: spans.1.of(marks),
+        };
+        parents.check()?;
+        self.check_room(Layer::Resolve, parents.resolved_len())?;
+        self.marks.append_joined(pivot, spans.0, spans.1);
+        let end = self.marks.len();
+        let origin = Origin::Resolve {
+            pivot,
+            first,
+            second,
+        };
+        Ok(enter(&mut self.steps, origin, end))
     }
 
     // Enters the parent's record without its tail, and tells the step's number; or refuses, and alters nothing.
