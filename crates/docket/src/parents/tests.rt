@@ -1,15 +1,22 @@
 ghost use Rattle.std.specs.Prelude.{◌≡◌, ◌+◌, length};
-ghost use Rattle.game.specs.Records.{found, has};
-ghost use Rattle.game.specs.Functions.{agree, clashes_above, opponents_agree, pivot_marks, resolved};
+ghost use Rattle.game.specs.Rules.{same_plain};
+ghost use Rattle.game.specs.Functions.{clashes_above, opponents_agree, pivot_marks, resolved};
 ghost use Rattle.docket.specs.Checks.{checked, parents_tests};
 ghost use Rattle.docket.specs.Sides.{seen};
 
 use super::Parents;
 use crate::look::mark_of;
 use crate::refusing::check;
-use game::record::{Entry, Mark};
+use game::record::Mark;
 use refusal::{Layer, Reason, Refusal};
 use table::{Keyed, Meeting, Walk};
+
+// Whether two marks of a variable are the same plain mark.
+fn agrees(one: Mark, other: Mark) -> bool
+    ensures { result ≡ same_plain one other }
+{
+    one == other && one != Mark::Star
+}
 
 impl<'a> Parents<'a> {
     // Refuses where the rule forbids the resolve.
@@ -35,22 +42,17 @@ impl<'a> Parents<'a> {
             && mark_of(self.second, self.pivot) == Some(Mark::Minus)
     }
 
-    // Whether the second record does not name the variable of this entry of the first one, or gives it the same plain mark.
-    fn agrees(&self, entry: Entry) -> bool
-        ensures { result ≡ agree (has entry.mark) (found self.now.second.now entry.variable) }
-    {
-        match mark_of(self.second, entry.variable) {
-            Some(mark) => mark == entry.mark && mark != Mark::Star,
-            None => true,
-        }
-    }
-
     // Whether no variable of the opponent clashes, the pivot aside.
     pub(crate) fn opponents_agree(&self) -> bool
         ensures { result ≡ opponents_agree (seen self.now.side) self.now.pivot self.now.first.now self.now.second.now }
     {
-        self.first.iter().all(|entry| {
-            entry.variable == self.pivot || self.side.mine(entry.variable) || self.agrees(*entry)
+        Walk::new(self.first, self.second).all(|met| match met {
+            Meeting::Both(one, other) => {
+                one.variable == self.pivot
+                    || self.side.mine(one.variable)
+                    || agrees(one.mark, other.mark)
+            }
+            _ => true,
         })
     }
 
@@ -59,10 +61,13 @@ impl<'a> Parents<'a> {
         ensures { result ≡ clashes_above (seen self.now.side) self.now.pivot self.now.first.now self.now.second.now }
     {
         let pivot_level = self.side.level(self.pivot);
-        self.first.iter().all(|entry| {
-            !self.side.mine(entry.variable)
-                || self.agrees(*entry)
-                || pivot_level < self.side.level(entry.variable)
+        Walk::new(self.first, self.second).all(|met| match met {
+            Meeting::Both(one, other) => {
+                !self.side.mine(one.variable)
+                    || agrees(one.mark, other.mark)
+                    || pivot_level < self.side.level(one.variable)
+            }
+            _ => true,
         })
     }
 
