@@ -7,6 +7,7 @@ use qdimacs::{Formula, Sealed};
 use refusal::Refusal;
 use std::alloc::{AllocError, Global};
 use std::io;
+use std::time::Instant;
 
 const NO_STEP: StoredStep = StoredStep {
     origin: Origin::Leaf,
@@ -43,17 +44,40 @@ fn told(heap: Global, answer: Result<u32, Refusal>) -> Result<String, AllocError
     }
 }
 
+// The memory of a docket.
+#[derive(Drop)]
+struct Memory {
+    steps: Vec<StoredStep>,
+    marks: Vec<Entry>,
+}
+
+impl Memory {
+    fn new(heap: Global, script: &Script<'_>) -> Result<Memory, AllocError> {
+        Ok(Memory {
+            steps: vec![in heap; NO_STEP; script.step_room]?,
+            marks: vec![in heap; NO_MARK; script.mark_room]?,
+        })
+    }
+
+    fn docket(&mut self, variables: usize) -> Docket<'_> {
+        Docket::open(
+            variables,
+            self.steps.as_mut_slice(),
+            self.marks.as_mut_slice(),
+        )
+    }
+}
+
 // Makes the calls one after another, and prints the first answer that is not the expected one, or that there is none.
-fn play<G: Ground>(
+fn compare<G: Ground>(
     rt: &HostRuntime,
     script: &Script<'_>,
     formula: &Sealed<'_>,
     own_ground: &G,
 ) -> io::Result<()> {
     let name = script.name;
-    let mut steps = vec![in rt.alloc(); NO_STEP; script.step_room]?;
-    let mut marks = vec![in rt.alloc(); NO_MARK; script.mark_room]?;
-    let mut docket = Docket::open(script.variables, steps.as_mut_slice(), marks.as_mut_slice());
+    let mut memory = Memory::new(rt.alloc(), script)?;
+    let mut docket = memory.docket(script.variables);
     for line in script.lines.iter() {
         let got = told(
             rt.alloc(),
@@ -67,8 +91,43 @@ fn play<G: Ground>(
     println!(rt; "{name}: as expected")
 }
 
-// Reads the script's formula, and plays the script over the ground of its letter.
-pub fn compare(rt: &HostRuntime, script: &Script<'_>) -> io::Result<()> {
+// Makes the calls so often, each time on a new docket, and prints how long that took.
+fn time<G: Ground>(
+    rt: &HostRuntime,
+    script: &Script<'_>,
+    formula: &Sealed<'_>,
+    own_ground: &G,
+    rounds: u32,
+) -> io::Result<()> {
+    let name = script.name;
+    let mut memory = Memory::new(rt.alloc(), script)?;
+    let start = Instant::now(rt)?;
+    for _ in 0..rounds {
+        let mut docket = memory.docket(script.variables);
+        for line in script.lines.iter() {
+            let _ = answer(&mut docket, formula, own_ground, &line.call);
+        }
+    }
+    let spent = start.elapsed(rt)?;
+    println!(rt; "{name}: {rounds} rounds in {spent:?}")
+}
+
+fn play<G: Ground>(
+    rt: &HostRuntime,
+    script: &Script<'_>,
+    formula: &Sealed<'_>,
+    own_ground: &G,
+    rounds: u32,
+) -> io::Result<()> {
+    compare(rt, script, formula, own_ground)?;
+    if rounds > 0 {
+        time(rt, script, formula, own_ground, rounds)?;
+    }
+    Ok(())
+}
+
+// Reads the script's formula, and plays the script over the ground of its letter, for its answers and then for its time.
+pub fn run(rt: &HostRuntime, script: &Script<'_>, rounds: u32) -> io::Result<()> {
     let name = script.name;
     let mut formula = Formula::new();
     if let Err(refusal) = formula.read(script.formula.as_bytes()) {
@@ -78,8 +137,8 @@ pub fn compare(rt: &HostRuntime, script: &Script<'_>) -> io::Result<()> {
         unreachable!()
     };
     if script.letter == "a" {
-        play(rt, script, &sealed, &Clauses { formula: sealed })
+        play(rt, script, &sealed, &Clauses { formula: sealed }, rounds)
     } else {
-        play(rt, script, &sealed, &Cubes { formula: sealed })
+        play(rt, script, &sealed, &Cubes { formula: sealed }, rounds)
     }
 }

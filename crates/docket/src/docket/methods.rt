@@ -45,7 +45,8 @@ impl Verdict {
     pub fn step(self) -> u32
         ensures { result ≡ self.step }
     {
-        self.step
+        let Verdict { step } = self;
+        step
     }
 }
 

@@ -1,5 +1,5 @@
-use Rattle.std.proofs.Common.{◌≡◌, Bool, true, ◌||◌, eqb, ap₂, ◌∙◌, rules}
-use Rattle.std.proofs.lemmas.Iterator.Consumers.{YieldsList-at, YieldsList-from_first}
+use Rattle.std.proofs.Common.{◌≡◌, true, ◌||◌, eqb, ap₂, ◌∙◌, rules}
+use Rattle.std.proofs.lemmas.Iterator.Consumers.{YieldsList-from_first}
 use Rattle.std.proofs.lemmas.Iterator.Search.{all_from_yields_List}
 use Rattle.table.specs.Joins.{ahead, meetings}
 use Rattle.game.specs.Records.{Found, absent}
