@@ -4,8 +4,8 @@ ghost use Rattle.std.specs.Option.{option_map};
 ghost use Rattle.std.specs.List.{slice_get};
 ghost use Rattle.formula.specs.Sections.{all_items, empty, items_of, with_item, with_section};
 
-use arrayvec::ArrayVec;
 use std::marker::Model;
+use table::Owned;
 
 // The head of a complete section, and where the section ends among the items.
 #[derive(Clone, Copy, Default)]
@@ -18,8 +18,8 @@ pub(crate) struct End<H> {
 // sections is the section that is begun.
 #[derive(Drop)]
 pub(crate) struct Sections<H, X, const MOST: usize, const ROOM: usize> {
-    ends: ArrayVec<End<H>, MOST>,
-    items: ArrayVec<X, ROOM>,
+    ends: Owned<End<H>, MOST>,
+    items: Owned<X, ROOM>,
 }
 
 impl<H, X, const MOST: usize, const ROOM: usize> Model for Sections<H, X, MOST, ROOM> {
@@ -31,9 +31,9 @@ impl<H, X, const MOST: usize, const ROOM: usize> Model for Sections<H, X, MOST, 
 
     ghost use Rattle.formula.specs.Ends.{SectionsLie, sections_in};
 
-    ghost view = { λ s. sections_in s.ends.items s.items.items };
+    ghost view = { λ s. sections_in s.ends s.items };
 
-    ghost invariant = { λ s. SectionsLie s.ends.items s.items.items };
+    ghost invariant = { λ s. SectionsLie s.ends s.items };
 }
 
 impl<H, X, const MOST: usize, const ROOM: usize> Sections<H, X, MOST, ROOM>
@@ -46,8 +46,8 @@ where
         ensures { result ≡ empty }
     {
         Sections {
-            ends: ArrayVec::new(),
-            items: ArrayVec::new(),
+            ends: Owned::new(),
+            items: Owned::new(),
         }
     }
 
@@ -100,7 +100,7 @@ where
     pub(crate) fn head(&self, i: usize) -> Option<H>
         ensures { result ≡ option_map (λ s. s.head) (slice_get self.now.complete i) }
     {
-        self.ends.get(i).map(|end| end.head)
+        self.ends.as_slice().get(i).map(|end| end.head)
     }
 
     // The head of the last complete section.
@@ -108,7 +108,7 @@ where
     pub(crate) fn last_head(&self) -> Option<H>
         ensures { result ≡ option_map (λ s. s.head) (slice_get self.now.complete (length self.now.complete - 1)) }
     {
-        Some(self.ends.last()?.head)
+        Some(self.ends.as_slice().last()?.head)
     }
 
     // Where the section i begins among the items, if there are so many.
@@ -117,7 +117,7 @@ where
         requires { i ≤ length self.now.complete }
         ensures { result ≡ length (items_of (take i self.now.complete)) }
     {
-        self.ends[..i].last().map_or(0, |last| last.end)
+        self.ends.as_slice()[..i].last().map_or(0, |last| last.end)
     }
 
     // The items of the section i, counted from 0. In constant time.
@@ -125,8 +125,8 @@ where
     pub(crate) fn section(&self, i: usize) -> Option<&[X]>
         ensures { option_map (λ s. s.now) result ≡ option_map (λ s. s.items) (slice_get self.now.complete i) }
     {
-        let end = self.ends.get(i)?.end;
-        self.items.get(self.start(i)..end)
+        let end = self.ends.as_slice().get(i)?.end;
+        self.items.as_slice().get(self.start(i)..end)
     }
 
     // All items, those of the section that is begun among them.
@@ -135,7 +135,7 @@ where
         ensures value { result.now ≡ all_items self.now }
         ensures fits { length result.now ≤ ROOM }
     {
-        &self.items
+        self.items.as_slice()
     }
 
     // The items of the complete sections.
@@ -144,7 +144,7 @@ where
         ensures { result.now ≡ items_of self.now.complete }
     {
         let end = self.start(self.len());
-        &self.items[..end]
+        &self.items.as_slice()[..end]
     }
 
     // Whether the section that is begun has no item yet.

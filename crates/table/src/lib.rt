@@ -2,9 +2,11 @@
 #![tactic(auto)]
 
 mod join;
+mod owned;
 mod slab;
 
 pub use join::{Keyed, Meeting, Span, Walk};
+pub use owned::Owned;
 pub use slab::{Full, Table};
 
 #[cfg(test)]

@@ -13,7 +13,7 @@ returns-in_err-end g c = grind (arith, nat_tests, count_kept, slice_get_past)
 pub returns : goal.returns
 returns g c =
     let s = c.self.inside in
-    let there : slice_get c.deref.result.now c.args.i ≡ Some c.in_ok-end.field-0.now =
-    sym (got c.deref.result.now c.args.i c.get.result c.get.ensures.lookup) ∙ ap option_copied c.in_ok-end.was in
-    let is = section_kept s.ends.items s.items.items c.self.invariant c.args.i in
+    let there : slice_get c.as_slice.result.now c.args.i ≡ Some c.in_ok-end.field-0.now =
+    sym (got c.as_slice.result.now c.args.i c.get.result c.get.ensures.lookup) ∙ ap option_copied c.in_ok-end.was in
+    let is = section_kept s.ends s.items c.self.invariant c.args.i in
     grind arith

@@ -6,5 +6,5 @@ use Rattle.formula.proofs.sections.Sections.start.Goals as goal
 pub slice_bounds-last-end : goal.slice_bounds-last-end
 slice_bounds-last-end g c =
     let s = c.self.inside in
-    let count = count_kept s.ends.items s.items.items in
+    let count = count_kept s.ends s.items in
     grind (arith, common_steps)
