@@ -8,7 +8,7 @@ ghost use Rattle.qdimacs.specs.Reading.{at_place};
 use formula::letter::{Letter, Literal};
 use formula::limits::{MOST_ROWS, MOST_VARIABLES};
 use refusal::{Layer, Reason, Refusal};
-use words::token::{Kind, Token, is_printable};
+use words::token::{Token, is_printable};
 
 // What is due.
 #[derive(Clone, Copy)]
@@ -135,20 +135,32 @@ fn row_number(value: i32) -> Move
 pub fn decide(phase: Phase, token: Token<'_>) -> Result<Move, Fault>
     ensures { result ≡ decided phase (said token.entry) }
 {
-    if token.kind == Kind::Stray && !is_printable(token.word) {
-        return Err(FOREIGN_BYTE);
-    }
-    match (phase, token.kind) {
-        (Phase::Start, Kind::Letter(b'p')) => Ok(Move::Problem),
-        (Phase::Format, Kind::Stray) if is_format(token.word) => Ok(Move::Format),
+    match (phase, token) {
+        (_, Token::Stray { word }) if !is_printable(word) => Err(FOREIGN_BYTE),
+        (Phase::Start, Token::Letter { letter: b'p', .. }) => Ok(Move::Problem),
+        (Phase::Format, Token::Stray { word }) if is_format(word) => Ok(Move::Format),
         (Phase::Start | Phase::Format, _) => Err(MISPLACED),
-        (Phase::Variables, Kind::Number(n)) => Ok(Move::Variables(head_number(n, MOST_VARIABLES)?)),
-        (Phase::RowCount(n), Kind::Number(m)) => Ok(Move::Head(n, head_number(m, MOST_ROWS)?)),
-        (Phase::Block(letter), Kind::Number(value)) => block_number(letter, value),
-        (Phase::Blocks | Phase::Rows | Phase::Row, Kind::Number(value)) => Ok(row_number(value)),
-        (Phase::Blocks, Kind::Letter(b'a')) => Ok(Move::Open(Letter::Universal)),
-        (Phase::Blocks, Kind::Letter(b'e')) => Ok(Move::Open(Letter::Existential)),
-        (Phase::Rows, Kind::Letter(b'a' | b'e')) => Err(MISPLACED),
-        (_, Kind::Letter(_) | Kind::Stray) => Err(NOT_A_NUMBER),
+        (Phase::Variables, Token::Number { value, .. }) => Ok(Move::Variables(head_number(
+            value,
+            MOST_VARIABLES,
+        )?)),
+        (Phase::RowCount(n), Token::Number { value, .. }) => Ok(Move::Head(
+            n,
+            head_number(value, MOST_ROWS)?,
+        )),
+        (Phase::Block(letter), Token::Number { value, .. }) => block_number(letter, value),
+        (Phase::Blocks | Phase::Rows | Phase::Row, Token::Number { value, .. }) => Ok(row_number(
+            value,
+        )),
+        (Phase::Blocks, Token::Letter { letter: b'a', .. }) => Ok(Move::Open(Letter::Universal)),
+        (Phase::Blocks, Token::Letter { letter: b'e', .. }) => Ok(Move::Open(Letter::Existential)),
+        (
+            Phase::Rows,
+            Token::Letter {
+                letter: b'a' | b'e',
+                ..
+            },
+        ) => Err(MISPLACED),
+        (_, Token::Letter { .. } | Token::Stray { .. }) => Err(NOT_A_NUMBER),
     }
 }
