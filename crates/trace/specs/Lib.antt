@@ -1,0 +1,4 @@
+pub mod Format
+pub mod Said
+pub mod Reads
+pub mod Encoding
