@@ -127,7 +127,7 @@ fn play<G: Ground>(
 }
 
 // Reads the script's formula, and plays the script over the ground of its letter, for its answers and then for its time.
-pub fn run(rt: &HostRuntime, script: &Script<'_>, rounds: u32) -> io::Result<()> {
+pub(crate) fn run(rt: &HostRuntime, script: &Script<'_>, rounds: u32) -> io::Result<()> {
     let name = script.name;
     let mut formula = Formula::new();
     if let Err(refusal) = formula.read(script.formula.as_bytes()) {

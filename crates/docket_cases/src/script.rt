@@ -124,7 +124,7 @@ impl<'a> Script<'a> {
     }
 
     // Reads a script: its head, and a line `CALL = EXPECTED` for each call; a line that begins with `#` is for people.
-    pub fn read(heap: Global, text: &'a str) -> Result<Script<'a>, ScriptError> {
+    pub(crate) fn read(heap: Global, text: &'a str) -> Result<Script<'a>, ScriptError> {
         let mut lines = text.lines().filter(|line| !line.starts_with('#'));
         let head = lines.next().ok_or(ScriptError::NotWellWritten)?;
         let mut script = Script::head(heap, head).ok_or(ScriptError::NotWellWritten)?;
