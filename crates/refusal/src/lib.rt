@@ -86,14 +86,12 @@ impl Reason {
     {
         self as u8
     }
-}
 
-// What it says, for people.
-impl fmt::Display for Reason {
-    ghost output = { λ r. Some (reason_text r) };
-
-    fn fmt<W: fmt::Write>(&self, f: &mut fmt::Formatter<W>) -> fmt::Result {
-        f.write_str(match self {
+    // What it says, for people.
+    pub fn text(self) -> &'static str
+        ensures { result.now ≡ reason_text self }
+    {
+        match self {
             Reason::TextTooLong => "the text is longer than 65,536 bytes",
             Reason::ForeignByte => "a word has a byte that the format does not know",
             Reason::Misplaced => "the text is not of the shape: head, blocks, rows",
@@ -136,15 +134,16 @@ impl fmt::Display for Reason {
             Reason::BoardFull => "every variable has a value",
             Reason::BoardNotFull => "not every variable has a value yet",
             Reason::UnknownChoice => "no choice is written so",
-        })
+        }
     }
 }
 
-impl fmt::Display for Layer {
-    ghost output = { λ l. Some (layer_name l) };
-
-    fn fmt<W: fmt::Write>(&self, f: &mut fmt::Formatter<W>) -> fmt::Result {
-        f.write_str(match self {
+impl Layer {
+    // Its name, for people.
+    pub fn name(self) -> &'static str
+        ensures { result.now ≡ layer_name self }
+    {
+        match self {
             Layer::Text => "text",
             Layer::Word => "word",
             Layer::Head => "head",
@@ -159,7 +158,23 @@ impl fmt::Display for Layer {
             Layer::Close => "close",
             Layer::Board => "board",
             Layer::Choices => "choices",
-        })
+        }
+    }
+}
+
+impl fmt::Display for Reason {
+    ghost output = { λ r. Some (reason_text r) };
+
+    fn fmt<W: fmt::Write>(&self, f: &mut fmt::Formatter<W>) -> fmt::Result {
+        f.write_str(self.text())
+    }
+}
+
+impl fmt::Display for Layer {
+    ghost output = { λ l. Some (layer_name l) };
+
+    fn fmt<W: fmt::Write>(&self, f: &mut fmt::Formatter<W>) -> fmt::Result {
+        f.write_str(self.name())
     }
 }
 
