@@ -1,14 +1,23 @@
 -- The join of two sorted lists of entries with keys, and the walk over two lists that makes it.
-use Rattle.std.specs.Prelude.{◌≡◌, ℕ, cond, not, List, [], ◌∷◌, map, filter, drop, Some, None, Option, MatchOption, ◌==◌, nat_lt}
+use Rattle.std.specs.Prelude.{◌≡◌, ℕ, ◌+◌, ◌-◌, ◌<◌, min, cond, not, List, [], ◌∷◌, map, filter, drop, Some, None, Option, MatchOption, ◌==◌, nat_lt}
 use Rattle.std.specs.List.{between}
 use Rattle.table.specs.declared.join.Meeting.{Meeting}
 use Rattle.table.specs.declared.join.Meeting.TheVariants.{First, Second, Both}
 use Rattle.table.specs.declared.join.Span.{Span}
+use Rattle.table.specs.declared.join.SpanWalk.{SpanWalk}
 use Rattle.table.specs.declared.join.Walk.{Walk}
 
 -- the part of a list that a span names; it is shorter where the list ends before the span, and empty where the span is backward
 abbrev pub part : {T : Type 0} → Span → List T → List T
 part s xs = between s.from s.to xs
+
+-- the places of a span that are below n
+abbrev pub below : ℕ → Span → Span
+below n s = record { from = s.from; to = min s.to n }
+
+-- the places of a span but for the first n
+abbrev pub past : ℕ → Span → Span
+past n s = record { from = s.from + n; to = s.to }
 
 -- ---- the join, where `key` is the key of an entry, and `both` makes one entry of two that have the same key
 
@@ -49,6 +58,10 @@ abbrev pub of_second : {T : Type 0} → Meeting T → ℕ
 of_second (First x) = 0
 of_second (Second y) = 1
 of_second (Both x y) = 1
+
+-- how many places a walk by places has still before it
+abbrev pub places_left : SpanWalk → ℕ
+places_left w = (w.first.to - w.first.from) + (w.second.to - w.second.from)
 
 module _ {T : Type 0} (key : T → ℕ) where
   -- the key that is met
@@ -93,3 +106,17 @@ module _ {T : Type 0} (key : T → ℕ) where
         ((ahead before ≡ []) × (after ≡ before))
         (λ m. (ahead before ≡ m ∷ ahead after)
         × (after.first.now ≡ drop (of_first m) before.first.now) × (after.second.now ≡ drop (of_second m) before.second.now))
+
+  -- what a walk over two parts of a list has still to meet
+  abbrev pub spans_ahead : List T → SpanWalk → List (Meeting T)
+  spans_ahead xs w = meetings (part w.first xs) (part w.second xs)
+
+  -- What a call of `next` of a walk by places does: where something is still to be met, the result is the first of it, and the walk has
+  -- gone on past it; where nothing is, the walk stays. It ends where it did.
+  pub record SpansStepped (xs : List T) (before : SpanWalk) (r : Option (Meeting T)) (after : SpanWalk) : Type 0 where
+    pub cases :
+        MatchOption r
+        ((spans_ahead xs before ≡ []) × (after ≡ before))
+        (λ m. (spans_ahead xs before ≡ m ∷ spans_ahead xs after) × (places_left after < places_left before))
+    pub first_end : after.first.to ≡ before.first.to
+    pub second_end : after.second.to ≡ before.second.to

@@ -2,6 +2,7 @@
 ghost use Rattle.std.specs.Prelude.{◌≡◌, ℕ};
 
 mod meets;
+mod places;
 mod steps;
 
 // An entry with a key, and how two entries of one key become one.
@@ -40,4 +41,12 @@ pub struct Span {
 pub struct Walk<'a, T> {
     first: &'a [T],
     second: &'a [T],
+}
+
+// A walk over two parts of a list at once, by rising keys: of each part, the places that are still ahead. It borrows the list for
+// a step only, so the list may grow from one step to the next.
+#[derive(Drop)]
+pub struct SpanWalk {
+    first: Span,
+    second: Span,
 }

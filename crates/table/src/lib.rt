@@ -5,13 +5,13 @@ mod join;
 mod owned;
 mod slab;
 
-pub use join::{Keyed, Meeting, Span, Walk};
+pub use join::{Keyed, Meeting, Span, SpanWalk, Walk};
 pub use owned::Owned;
 pub use slab::{Full, Table};
 
 #[cfg(test)]
 mod tests {
-    use super::{Full, Keyed, Meeting, Span, Table, Walk};
+    use super::{Full, Keyed, Meeting, Span, SpanWalk, Table, Walk};
 
     #[test]
     fn three_slots_take_three_entries(rt: HostRuntime) {
@@ -102,6 +102,25 @@ mod tests {
         assert_eq!(rt; walk.next(), Some(4));
         assert_eq!(rt; walk.next(), Some(5));
         assert_eq!(rt; walk.next(), None);
+    }
+
+    #[test]
+    fn a_table_grows_between_the_steps_of_a_walk(rt: HostRuntime) {
+        let mut memory = lists();
+        let mut table = Table::resume(&mut memory, 6);
+        let second = Span { from: 3, to: 9 }.below(table.len());
+        let mut walk = SpanWalk::new(Span { from: 0, to: 3 }, second);
+        for key in 1..6 {
+            let met = walk.next(table.as_slice());
+            assert_eq!(rt; met.map(Meeting::key), Some(key));
+            if let Some(met) = met {
+                let _ = table.push(met.joined());
+            }
+        }
+        assert_eq!(rt; walk.next(table.as_slice()), None);
+        assert_eq!(rt; table.get(6), Some(item(1, 7)));
+        assert_eq!(rt; table.get(7), Some(item(2, 7)));
+        assert_eq!(rt; table.get(8), Some(item(3, 9)));
     }
 
     #[test]

@@ -1,11 +1,21 @@
 ghost use Rattle.std.specs.Prelude.{◌≡◌, ⊤};
 ghost use Rattle.std.specs.Iterator.{MakesProgress, YieldsFirst, item_count};
-ghost use Rattle.table.specs.Joins.{ahead, part, Stepped};
+ghost use Rattle.table.specs.Joins.{ahead, below, part, Stepped};
 
 use super::meets::meet;
 use super::{Keyed, Meeting, Span, Walk};
 
 impl Span {
+    // The places of it that are below `len`.
+    pub fn below(self, len: usize) -> Span
+        ensures { result ≡ below len self }
+    {
+        Span {
+            from: self.from,
+            to: self.to.min(len),
+        }
+    }
+
     // The part of a list that it names: shorter where the list ends before the span does, and empty where the span is backward.
     pub fn of<T>(self, all: &[T]) -> &[T]
         ensures { result.now ≡ part self all.now }
