@@ -54,7 +54,7 @@ impl<T: Default + Copy, const N: usize> Owned<T, N> {
         ensures value { result ≡ length self.now }
         ensures fits { result ≤ N }
     {
-        self.len
+        self.as_slice().len()
     }
 
     // Whether no further entry fits.
