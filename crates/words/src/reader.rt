@@ -38,6 +38,17 @@ fn from_line_end(bytes: &[u8]) -> &[u8]
     &bytes[end..]
 }
 
+// Whether the first word is `c`, where a word begins. Looks at two bytes at most.
+fn is_comment(rest: &[u8]) -> bool
+    ensures { result ≡ bytes_eq (front rest.now) (99 ∷ []) }
+{
+    match rest {
+        [b'c'] => true,
+        [b'c', b, ..] => is_separator(b),
+        _ => false,
+    }
+}
+
 // The offset after the comments at the front of the text: of its first word that is not `c`, or the text's length.
 #[tactic(auto, using(crate::proofs::Comments::passing))]
 fn comments_end(text: &[u8]) -> usize
@@ -45,7 +56,7 @@ fn comments_end(text: &[u8]) -> usize
     ensures within { result ≤ length text.now }
 {
     let mut rest = from_word(text);
-    while front(rest) == b"c".as_slice() {
+    while is_comment(rest) {
         rest = from_word(from_line_end(rest));
     }
     text.len() - rest.len()
