@@ -90,12 +90,13 @@ struct Repetition<'a> {
 fn repeated_in(escaped: &[u8]) -> Option<Repetition<'_>>
     ensures { IfSome result (λ p. length p.rest.now < length escaped.now) }
 {
-    let (count, rest) = from_utf8(escaped).ok()?.split_once('*')?;
-    let (bytes, rest) = rest.split_once('}')?;
+    let star = escaped.iter().position(|b| *b == b'*')?;
+    let behind = &escaped[star + 1..];
+    let end = behind.iter().position(|b| *b == b'}')?;
     Some(Repetition {
-        count: count.parse().ok()?,
-        bytes: bytes.as_bytes(),
-        rest: rest.as_bytes(),
+        count: from_utf8(&escaped[..star]).ok()?.parse().ok()?,
+        bytes: &behind[..end],
+        rest: &behind[end + 1..],
     })
 }
 
