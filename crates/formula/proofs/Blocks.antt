@@ -1,11 +1,12 @@
 -- Blocks as they are kept: levels, one variable more, one block more. Assumes nothing.
-use Rattle.std.proofs.Common.{◌≡◌, ℕ, zero, suc, ◌+◌, ◌-◌, ◌<◌, ◌≤◌, true, false, cond, not, ◌||◌, eqb, List, [], ◌∷◌, ◌++◌, length, get_or, set, replicate, None, Ok, sym, refl, ap, ◌∙◌, ⊎_elim, arith}
+use Rattle.std.proofs.Common.{◌≡◌, ℕ, zero, suc, ◌+◌, ◌-◌, ◌<◌, ◌≤◌, true, false, cond, not, ◌||◌, eqb, List, [], ◌∷◌, ◌++◌, length, get_or, set, replicate, Some, None, Ok, Err, sym, refl, ap, ◌∙◌, ⊎_elim, arith}
 use Rattle.std.specs.List.{slice_get}
 use Rattle.std.proofs.Math.Bool.{or_assoc}
 use Rattle.std.proofs.lemmas.Bool.Decides.{nat_tests}
 use Rattle.std.proofs.lemmas.List.{get_or-replicate, get_or-set_same, get_or-set_other, length-set, flat_map_more}
 use Rattle.std.proofs.lemmas.Bool.{cases_eq, eqb-true, false≢true, and_from}
 use Rattle.std.specs.Option.{option_map, option_map_or}
+use Rattle.refusal.specs.declared.Reason.TheVariants.{BadBlock, TooMany}
 use Rattle.formula.specs.declared.letter.Letter.{Letter}
 use Rattle.formula.specs.declared.letter.Letter.TheVariants.{Universal}
 use Rattle.formula.specs.Sections.{Section, items_of}
@@ -17,27 +18,27 @@ pub has_append : (xs ys : List ℕ) (x : ℕ) → has_var (xs ++ ys) x ≡ (has_
 has_append [] ys x = refl
 has_append (z ∷ xs) ys x = ap (λ b. eqb z x || b) (has_append xs ys x) ∙ sym (or_assoc (eqb z x) (has_var xs x) (has_var ys x))
 
-has_push_same : (xs : List ℕ) (x : ℕ) → has_var (xs ++ x ∷ []) x ≡ true
+pub has_push_same : (xs : List ℕ) (x : ℕ) → has_var (xs ++ x ∷ []) x ≡ true
 has_push_same xs x = grind (arith, nat_tests, has_append)
 
-has_push_other : (xs : List ℕ) (y x : ℕ) → (y ≡ x → ⊥) → has_var (xs ++ y ∷ []) x ≡ has_var xs x
+pub has_push_other : (xs : List ℕ) (y x : ℕ) → (y ≡ x → ⊥) → has_var (xs ++ y ∷ []) x ≡ has_var xs x
 has_push_other xs y x other = grind (arith, nat_tests, has_append)
 
 -- ---- levels
 
 -- a variable has level 0 exactly if no block has it
-level_zero : (l : ℕ) (bs : List Block) (x : ℕ) → 1 ≤ l → eqb (level_from l bs x) 0 ≡ not (has_var (order bs) x)
+pub level_zero : (l : ℕ) (bs : List Block) (x : ℕ) → 1 ≤ l → eqb (level_from l bs x) 0 ≡ not (has_var (order bs) x)
 level_zero l [] x low = refl
 level_zero l (b ∷ bs) x low = grind (arith, nat_tests, level_zero (l + 1) bs x (omega arith), has_append b.vars (order bs) x)
 
 -- the level of a variable in one block more
-level_push : (l : ℕ) (bs : List Block) (b : Block) (x : ℕ)
+pub level_push : (l : ℕ) (bs : List Block) (b : Block) (x : ℕ)
     → level_from l (bs ++ b ∷ []) x ≡ cond (has_var (order bs) x) (level_from l bs x) (cond (has_var b.vars x) (l + length bs) 0)
 level_push l [] b x = grind arith
 level_push l (c ∷ bs) b x = grind (arith, nat_tests, level_push (l + 1) bs b x, has_append c.vars (order bs) x)
 
 -- a level counts only complete blocks where no further one is begun
-level_closed : (bs : List Block) (x : ℕ) → level (with_begun bs []) x ≡ level bs x
+pub level_closed : (bs : List Block) (x : ℕ) → level (with_begun bs []) x ≡ level bs x
 level_closed bs x = grind (arith, nat_tests, level_push 1 bs (record { letter = Universal; vars = [] }) x, level_zero 1 bs x (omega arith))
 
 -- ---- what is out of range, is not bound
@@ -123,13 +124,24 @@ bindable x p fine = grind (arith, nat_tests)
 pub blocks_fit : (l : Letter) (p : PrefixModel) → no_block l p ≡ None → length p.blocks < 64
 blocks_fit l p fine = grind (arith, nat_tests)
 
+pub no_block_full : (l : Letter) (p : PrefixModel) → ends_in l p.blocks ≡ false → 64 ≤ length p.blocks → no_block l p ≡ Some TooMany
+no_block_full l p other full = grind (arith, nat_tests)
+
 pub no_block_none : (l : Letter) (p : PrefixModel) → ends_in l p.blocks ≡ false → length p.blocks < 64 → no_block l p ≡ None
 no_block_none l p other room = grind (arith, nat_tests)
+
+pub block_empty : (l : Letter) (p : PrefixModel) → no_block l p ≡ None → length p.begun ≡ 0 → end_block l p ≡ Err BadBlock
+block_empty l p fine none = grind (arith, nat_tests)
 
 pub block_ended : (l : Letter) (p : PrefixModel) → no_block l p ≡ None → (length p.begun ≡ 0 → ⊥) → end_block l p ≡ Ok (with_block l p)
 block_ended l p fine some = grind (arith, nat_tests)
 
 -- ---- the last block
+
+pub ends_in_push : (l : Letter) (bs : List Block) (b : Block) → ends_in l (bs ++ b ∷ []) ≡ same_letter l b.letter
+ends_in_push l [] b = refl
+ends_in_push l (c ∷ []) b = refl
+ends_in_push l (c ∷ d ∷ bs) b = ends_in_push l (d ∷ bs) b
 
 ends_more : (l : Letter) (s : Section Letter ℕ) (ss : List (Section Letter ℕ))
     → ends_in l (blocks_in (s ∷ ss)) ≡ option_map_or (same_letter l) (option_map (λ (t : Section Letter ℕ). t.head) (slice_get (s ∷ ss) (length ss))) false
@@ -166,20 +178,42 @@ module _ (bs : List Block) (begun : List ℕ) (x : ℕ) where
   mark_high high = grind (arith, nat_tests, told_by, level_none bs x, level_within 1 bs x)
 
 -- a level of 0 says that nobody owns the variable; any other names its block, which has the owner's letter
-owner_none : (bs : List Block) (x : ℕ) → has_var (order bs) x ≡ false → owner bs x ≡ None
+pub owner_none : (bs : List Block) (x : ℕ) → has_var (order bs) x ≡ false → owner bs x ≡ None
 owner_none [] x out = refl
 owner_none (b ∷ bs) x out = grind (arith, nat_tests, owner_none bs x, has_append b.vars (order bs) x)
 
 pub owner_zero : (bs : List Block) (x : ℕ) → level bs x ≡ 0 → owner bs x ≡ None
 owner_zero bs x e = grind (arith, nat_tests, owner_none bs x, level_zero 1 bs x (omega arith))
 
-owner_from : (l : ℕ) (ss : List (Section Letter ℕ)) (x k : ℕ) → 1 ≤ l → level_from l (blocks_in ss) x ≡ l + k
-    → owner (blocks_in ss) x ≡ option_map (λ (s : Section Letter ℕ). s.head) (slice_get ss k)
-owner_from l [] x k low is = absurd (omega arith)
-owner_from l (s ∷ ss) x zero low is =
-    grind (arith, nat_tests, level_within (l + 1) (blocks_in ss) x, level_zero (l + 1) (blocks_in ss) x (omega arith))
-owner_from l (s ∷ ss) x (suc k) low is = grind (arith, nat_tests, owner_from (l + 1) ss x k)
+-- the block that a level counts, the first having the number l
+owner_in : (l : ℕ) (bs : List Block) (x k : ℕ) → has_var (order bs) x ≡ true → level_from l bs x ≡ l + k
+    → owner bs x ≡ option_map (λ (b : Block). b.letter) (slice_get bs k)
+owner_in l [] x k there is = absurd (false≢true there)
+owner_in l (b ∷ bs) x zero there is = grind (arith, nat_tests, level_within (l + 1) bs x, has_append b.vars (order bs) x)
+owner_in l (b ∷ bs) x (suc k) there is = grind (arith, nat_tests, owner_in (l + 1) bs x k, has_append b.vars (order bs) x)
+
+-- a variable of the blocks: its level counts a block, which has its owner's letter
+pub level_found : (l : ℕ) (bs : List Block) (x : ℕ) → has_var (order bs) x ≡ true
+    → (l ≤ level_from l bs x) × (level_from l bs x < l + length bs) × (owner bs x ≡ option_map (λ (b : Block). b.letter) (slice_get bs (level_from l bs x - l)))
+level_found l bs x there =
+    let within = level_within l bs x there in
+    (within.0, within.1, owner_in l bs x _ there (omega (arith, within.0)))
+
+pub owner_some : (bs : List Block) (x : ℕ) → (level bs x ≡ 0 → ⊥) → (level bs x ≤ length bs) × (owner bs x ≡ option_map (λ (b : Block). b.letter) (slice_get bs (level bs x - 1)))
+owner_some bs x some =
+    let there : has_var (order bs) x ≡ true = grind (arith, nat_tests, level_zero 1 bs x (omega arith)) in
+    let found = level_found 1 bs x there in
+    (omega (arith, found.1), found.2)
+
+letters_in : (ss : List (Section Letter ℕ)) (k : ℕ)
+    → option_map (λ (b : Block). b.letter) (slice_get (blocks_in ss) k) ≡ option_map (λ (s : Section Letter ℕ). s.head) (slice_get ss k)
+letters_in [] k = refl
+letters_in (s ∷ ss) zero = refl
+letters_in (s ∷ ss) (suc k) = letters_in ss k
 
 pub owner_at : (ss : List (Section Letter ℕ)) (x k : ℕ) → level (blocks_in ss) x ≡ k + 1
     → owner (blocks_in ss) x ≡ option_map (λ (s : Section Letter ℕ). s.head) (slice_get ss k)
-owner_at ss x k is = owner_from 1 ss x k (omega arith) (omega (arith, is))
+owner_at ss x k is =
+    let place : level (blocks_in ss) x - 1 ≡ k = omega (arith, is) in
+    (owner_some (blocks_in ss) x (λ none. omega (arith, is, none))).1
+    ∙ ap (λ n. option_map (λ (b : Block). b.letter) (slice_get (blocks_in ss) n)) place ∙ letters_in ss k

@@ -2,7 +2,7 @@
 use Rattle.std.proofs.Common.{◌≡◌, ℕ, zero, suc, ◌+◌, ◌-◌, ◌<◌, ◌≤◌, true, leb, List, [], ◌∷◌, ◌++◌, length, get_or, take, drop, Some, sym, refl, ap, ◌∙◌, ap₂, arith}
 use Rattle.std.specs.List.{slice_get, flat_map}
 use Rattle.std.specs.Option.{option_map_or}
-use Rattle.std.proofs.lemmas.List.{take-append-le, drop-append-le, length-drop, drop-drop, take_more}
+use Rattle.std.proofs.lemmas.List.{take-append-le, drop-append-le, length-drop, drop-drop, take-take, drop-take, take_more}
 use Rattle.std.proofs.lemmas.Bool.{and_parts, and_from, leb-true, le-leb}
 use Rattle.formula.specs.Cuts.{part, last_end, climbs, cut}
 
@@ -29,9 +29,15 @@ module _ {X : Type 0} where
       split (suc m) (suc n) (z ∷ zs) h = let less : suc n - suc m ≡ n - m = omega arith in
           ap (λ k. z ∷ (take m zs ++ take k (drop m zs))) less ∙ ap (λ l. z ∷ l) (split m n zs (omega arith))
 
+  -- a part of a front that holds it
+  pub part_taken : (a b n : ℕ) (xs : List X) → a ≤ b → b ≤ n → part a b (take n xs) ≡ part a b xs
+  part_taken a b n xs low high =
+      let far : a + (n - a) ≡ n = omega arith in
+      ap (take (b - a)) (ap (λ k. drop a (take k xs)) (sym far) ∙ drop-take a (n - a) xs) ∙ take-take (b - a) (n - a) (drop a xs) (omega arith)
+
 module _ {E : Type 0} (end : E → ℕ) where
   -- the parts do not end before they begin
-  last_above : (at : ℕ) (es : List E) → climbs end at es ≡ true → at ≤ last_end end at es
+  pub last_above : (at : ℕ) (es : List E) → climbs end at es ≡ true → at ≤ last_end end at es
   last_above at [] up = omega arith
   last_above at (e ∷ es) up =
       let both = and_parts (leb at (end e)) (climbs end (end e) es) up in
