@@ -1,5 +1,5 @@
 -- What a prefix of the code tells of what it holds. Assumes nothing.
-use Rattle.std.proofs.Common.{◌≡◌, ℕ, ◌+◌, ◌<◌, ◌≤◌, true, false, not, [], ◌∷◌, ◌++◌, length, get_or, set, None, sym, refl, ap, ◌∙◌, ⊎_elim, arith, length-append}
+use Rattle.std.proofs.Common.{◌≡◌, ℕ, ◌+◌, ◌<◌, ◌≤◌, true, false, not, [], ◌∷◌, ◌++◌, length, get_or, set, None, sym, refl, ap, ◌∙◌, ⊎_elim, arith}
 use Rattle.std.proofs.lemmas.List.{get_or_past}
 use Rattle.std.proofs.lemmas.Bool.{eqb-true, cases_lt}
 use Rattle.std.proofs.lemmas.Bool.Decides.{nat_tests}
@@ -7,7 +7,7 @@ use Rattle.formula.specs.declared.prefix.Prefix.{Prefix}
 use Rattle.formula.specs.Prefix.{LevelsTold, all_in_range, bound, in_range, level_so_far, marked, unbindable}
 use Rattle.formula.specs.Sections.{all_items, with_item}
 use Rattle.formula.specs.View.{prefix_of}
-use Rattle.formula.proofs.SectionLemmas.{all_items-with_item}
+use Rattle.formula.proofs.SectionLemmas.{all_items-with_item, length_with_item}
 use Rattle.formula.proofs.Blocks.{bindable, level_out, level_unbound, mark_left, marked_set, order_kept, range_push, var_levels}
 
 module _ (p : Prefix) where
@@ -55,4 +55,4 @@ module _ (p : Prefix) where
     pub marked_kept : (level : ℕ) → (level ≡ 0 → ⊥) → marked (set p.levels x level) ≡ length (all_items (with_item x p.blocks))
     marked_kept level some =
         marked_set p.levels x level (omega (arith, low_of.1, p.each_level)) unmarked some
-        ∙ omega (arith, p.count, ap length (all_items-with_item x p.blocks), length-append (all_items p.blocks) (x ∷ []))
+        ∙ omega (arith, p.count, length_with_item x p.blocks)

@@ -1,5 +1,5 @@
 -- Sections as they are kept, as they and their items grow. Assumes nothing.
-use Rattle.std.proofs.Common.{◌≡◌, ℕ, zero, suc, ◌-◌, true, List, [], ◌∷◌, ◌++◌, length, get_or, take, drop, Some, Option, Bor, sym, refl, ap, ◌∙◌, ap₂, append_assoc, append-nil, arith}
+use Rattle.std.proofs.Common.{◌≡◌, ℕ, zero, suc, ◌+◌, ◌-◌, true, List, [], ◌∷◌, ◌++◌, length, get_or, take, drop, Some, Option, Bor, sym, refl, ap, ◌∙◌, ap₂, append_assoc, append-nil, length-append, arith}
 use Rattle.std.specs.List.{slice_get}
 use Rattle.std.specs.Option.{option_map}
 use Rattle.std.specs.Slice.{IsGetRangeResult}
@@ -16,10 +16,16 @@ module _ {H X : Type 0} where
   pub all_items-with_item : (x : X) (s : Sections H X) → all_items (with_item x s) ≡ all_items s ++ x ∷ []
   all_items-with_item x s = sym (append_assoc (items_of s.complete) s.begun (x ∷ []))
 
+  pub length_with_item : (x : X) (s : Sections H X) → length (all_items (with_item x s)) ≡ length (all_items s) + 1
+  length_with_item x s = omega (arith, ap length (all_items-with_item x s), length-append (all_items s) (x ∷ []))
+
   pub all_items-with_section : (h : H) (s : Sections H X) → all_items (with_section h s) ≡ all_items s
   all_items-with_section h s =
       append-nil (items_of (s.complete ++ record { head = h; items = s.begun } ∷ []))
       ∙ sym (flat_map_more (λ (t : Section H X). t.items) [] s.complete (record { head = h; items = s.begun }))
+
+  pub length_with_section : (h : H) (s : Sections H X) → length (all_items (with_section h s)) ≡ length (all_items s)
+  length_with_section h s = ap length (all_items-with_section h s)
 
   -- ---- sections as they are kept
 

@@ -4,6 +4,7 @@ ghost use Rattle.std.specs.Option.{option_map};
 ghost use Rattle.std.specs.List.{slice_get};
 ghost use Rattle.std.specs.Result.{result_err};
 ghost use Rattle.formula.specs.Matrix.{MarksTold, add_literal, all_literals, complete, end_row, forbidden, no_rows};
+ghost use Rattle.formula.specs.Sections.{all_items};
 ghost use Rattle.formula.specs.Told.{told};
 
 use crate::letter::Literal;
@@ -19,7 +20,7 @@ pub struct Matrix {
     rows: Sections<(), Literal, MOST_ROWS, MOST_LITERALS>,
     seen: [u16; MARKS],
     ghost each_seen: { length seen ≡ 1025 },
-    ghost few: { (due ≤ 4096) × (length rows.complete ≤ due) },
+    ghost few: { (due ≤ 4096) × (length rows.complete ≤ due) × (length (all_items rows) ≤ 16384) },
     ghost marks: { MarksTold seen (length rows.complete) rows.begun },
 }
 
@@ -93,6 +94,7 @@ impl Matrix {
     }
 
     // The end of the row that is being read, or a refusal that alters nothing.
+    #[tactic(auto, using(crate::proofs::SectionLemmas::length_with_section))]
     pub fn end_row(&mut self) -> Result<(), Reason>
         ensures value { told result (matrix_of self.new) ≡ end_row (matrix_of self.old) }
         ensures same { OnErr result (self.new ≡ self.old) }

@@ -20,7 +20,7 @@ pub struct Prefix {
     blocks: Sections<Letter, u32, MOST_BLOCKS, MOST_VARIABLES>,
     levels: [u8; MARKS],
     ghost each_level: { length levels ≡ 1025 },
-    ghost few: { (variables ≤ 1024) × (length blocks.complete ≤ 64) },
+    ghost few: { (variables ≤ 1024) × (length blocks.complete ≤ 64) × (length (all_items blocks) ≤ 1024) },
     ghost range: { all_in_range variables (all_items blocks) ≡ true },
     ghost told: { LevelsTold levels (blocks_in blocks.complete) blocks.begun },
     ghost count: { marked levels ≡ length (all_items blocks) },

@@ -13,7 +13,7 @@ invariant_of-self c =
     let same = all_items-with_section c.args.letter p.blocks in
     rw c.end.ensures (record {
       each_level = p.each_level;
-      few = (p.few.0, simp length-append (omega (arith, simp length-map at few)));
+      few = (p.few.0, simp length-append (omega (arith, simp length-map at few)), omega (arith, ap length same, p.few.2));
       range = ap (all_in_range p.variables) same ∙ p.range;
       told = rw map-append (block_levels p.levels (prefix_of p).blocks p.blocks.begun p.told c.args.letter);
       count = p.count ∙ sym (ap length same);
