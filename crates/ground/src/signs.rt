@@ -3,18 +3,38 @@ ghost use Rattle.std.specs.Prelude.{◌≡◌, IfSome, is_some};
 ghost use Rattle.formula.specs.declared.letter.Literal.{Literal};
 ghost use Rattle.game.specs.Grounds.{has_literal, leaf_over, some_literal};
 ghost use Rattle.game.specs.Leaves.{each_literal};
-ghost use Rattle.ground.specs.Signs.{has_sign};
+ghost use Rattle.ground.specs.Signs.{has_sign, sign_of};
 
 use crate::leaves::{all_bound, rises};
 use crate::whole::Whole;
 use formula::letter::Literal;
 use formula::limits::MARKS;
 
-// For each variable the sign that the leaf gives it, none where the leaf does not name it. An array by variable and no map, since a ground has no
-// heap.
+// The sign that a leaf gives a variable, or that it does not name it. One byte, where an `Option<bool>` has two: the array is filled anew for
+// each leaf, and of a short leaf this is most of the work.
+#[derive(Clone, Copy, PartialEq)]
+pub(crate) enum Sign {
+    Absent,
+    Positive,
+    Negative,
+}
+
+impl Sign {
+    fn of(positive: bool) -> Sign
+        ensures { result ≡ sign_of positive }
+    {
+        if positive {
+            Sign::Positive
+        } else {
+            Sign::Negative
+        }
+    }
+}
+
+// For each variable the sign that the leaf gives it. An array by variable and no map, since a ground has no heap.
 #[derive(Drop)]
 pub(crate) struct Signs {
-    by_variable: [Option<bool>; MARKS],
+    by_variable: [Sign; MARKS],
 }
 
 impl Signs {
@@ -26,9 +46,9 @@ impl Signs {
         if !all_bound(formula, leaf) || !rises(leaf) {
             return None;
         }
-        let mut by_variable = [None; MARKS];
+        let mut by_variable = [Sign::Absent; MARKS];
         for literal in leaf {
-            by_variable[literal.variable as usize] = Some(literal.positive);
+            by_variable[literal.variable as usize] = Sign::of(literal.positive);
         }
         Some(Signs { by_variable })
     }
@@ -38,7 +58,7 @@ impl Signs {
         ensures { result ≡ has_sign self.now literal }
     {
         let sign = self.by_variable.get(literal.variable as usize);
-        sign.copied().flatten() == Some(literal.positive)
+        sign.copied() == Some(Sign::of(literal.positive))
     }
 
     // Whether every literal of the row stands in it.

@@ -16,7 +16,7 @@ loop-literal-preserved g c =
     record {
       size = length-set _ _ _ ∙ c.loop-literal.invariant.size;
       told = λ x.
-          one_more c.loop-literal.by_variable c.args.leaf.now c.loop-literal.literal-index _ x c.loop-literal-test.true (omega (arith, low, c.loop-literal.invariant.size))
+          rw c.of.ensures (one_more c.loop-literal.by_variable c.args.leaf.now c.loop-literal.literal-index _ x c.loop-literal-test.true (omega (arith, low, c.loop-literal.invariant.size)))
           ∙ c.loop-literal.invariant.told x;
     }
 
