@@ -1,5 +1,5 @@
 -- What a table holds, as two lists: its entries, and the slots that are still free.
-use Rattle.std.specs.Prelude.{◌≡◌, ℕ, ◌<◌, List, [], ◌∷◌, ◌++◌, length, take, drop, Result, MatchResult}
+use Rattle.std.specs.Prelude.{◌≡◌, ℕ, ◌<◌, ◌≤◌, List, [], ◌∷◌, ◌++◌, length, take, drop, Result, MatchResult}
 use Rattle.table.specs.declared.slab.Full.{Full}
 use Rattle.table.specs.declared.slab.Table.{Table}
 
@@ -18,6 +18,12 @@ module _ {T : Type 0} where
     pub rest : free after ≡ drop (length new) (free before)
     -- the slots are the same memory, so that their owner learns what they hold
     pub stays : after.slots.ghost_name ≡ before.slots.ghost_name
+
+  -- some entries stand after the old ones, as many at most as there were free slots, and no other slot has changed
+  pub record Longer (before after : Table T) : Type 0 where
+    pub new : List T
+    pub fits : length new ≤ length (free before)
+    pub grown : Grown before new after
 
   -- the first n slots hold what there was of `new`, as far as there were slots, and no other slot has changed
   pub record Filled (before new : List T) (n : ℕ) (after : List T) : Type 0 where

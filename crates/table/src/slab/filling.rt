@@ -11,6 +11,7 @@ pub(super) fn fill<T: Copy, I: Iterator<Item = T>>(slots: &mut [T], items: I) ->
     requires can { I.can_next items }
     requires ends { IsFinite (I.remaining items) }
     ensures room { result ≤ length slots.old }
+    ensures rest { drop result slots.new ≡ drop result slots.old }
     ensures filled { (all : List T) → AlwaysYields I.next_gives (λ x. x) items all → Filled slots.old all result slots.new }
 {
     let mut filled = 0;
@@ -35,6 +36,7 @@ pub(super) fn fill_kept<T: Copy, F: FnMut(&T) -> bool>(
     requires within { used ≤ length slots.old }
     ensures room { used + result ≤ length slots.old }
     ensures front { take used slots.new ≡ take used slots.old }
+    ensures rest { drop (used + result) slots.new ≡ drop (used + result) slots.old }
     ensures back { (test : T → Bool) → ActsAsAt F.FnMut keep test → Filled (drop used slots.old) (filter test (part span (take used slots.old))) result (drop used slots.new) }
 {
     let (entries, free) = slots.split_at_mut(used);

@@ -85,7 +85,7 @@ grown g c =
     let all = part c.in_ok-span.span (entries c.args.self.now.marks) in
     let cut : c.of-record.result.now ≡ all = c.of-record.ensures ∙ ap (part c.in_ok-span.span) c.as_slice.ensures in
     let made : filter (λ (e : Entry). f e.variable) all ≡ reduced (game g at) (parent g at) = sym (kept_filter f all) ∙ ap (kept f) (sym cut) ∙ left g at in
-    grown_whole (reduced (game g at) (parent g at)) (rw made at (c.append_kept.ensures (λ (e : Entry). f e.variable) (λ x b q k. search rules)))
+    grown_whole (reduced (game g at) (parent g at)) (rw made at (c.append_kept.ensures.passed (λ (e : Entry). f e.variable) (λ x b q k. search rules)))
     (rw (← stay g at) c.in_ok-check_room.ensures.room.1)
 
 pub invariant_of-self : goal.invariant_of-self
