@@ -1,15 +1,13 @@
 -- Sections as they are kept, as they and their items grow. Assumes nothing.
-use Rattle.std.proofs.Common.{◌≡◌, ℕ, zero, suc, ◌+◌, ◌-◌, true, List, [], ◌∷◌, ◌++◌, length, get_or, take, drop, Some, Option, Bor, sym, refl, ap, ◌∙◌, ap₂, append_assoc, append-nil, length-append, arith}
-use Rattle.std.specs.List.{slice_get}
+use Rattle.std.proofs.Common.{◌≡◌, ℕ, zero, suc, ◌+◌, ◌-◌, ◌<◌, ◌≤◌, true, List, [], ◌∷◌, ◌++◌, length, get_or, take, drop, Some, sym, refl, ap, ◌∙◌, ap₂, append_assoc, append-nil, length-append, arith}
+use Rattle.std.specs.List.{slice_get, slice_range}
 use Rattle.std.specs.Option.{option_map}
-use Rattle.std.specs.Slice.{IsGetRangeResult}
 use Rattle.std.proofs.lemmas.List.{length-take-le, drop-append-le, drop_all, take_rest, take-append-drop, flat_map_more}
 use Rattle.std.proofs.lemmas.Option.{slice_get_within, get_or_from_slice_get}
 use Rattle.formula.specs.declared.sections.End.{End}
 use Rattle.formula.specs.Cuts.{cut, part, last_end, climbs}
 use Rattle.formula.specs.Ends.{end_of, as_section, sections_in, SectionsLie}
 use Rattle.formula.specs.Sections.{Section, Sections, items_of, all_items, with_item, with_section}
-use Rattle.formula.proofs.Looked.{got_part}
 use Rattle.formula.proofs.Parts.{cut_grown, cut_push, take_cut, length_cut, joined_cut, nth_cut, last_push, climbs_push, climbs_front, climbs_at}
 
 module _ {H X : Type 0} where
@@ -85,15 +83,24 @@ module _ {H X : Type 0} (ends : List (End H)) (xs : List X) (lie : SectionsLie e
   section_lies h =
       (climbs_push end_of 0 ends (record { head = h; end = length xs }) lie.0 lie.1, omega (arith, last_push end_of 0 ends (record { head = h; end = length xs })))
 
-  -- the items of a section, as `get` finds them
-  pub section_kept : (i from : ℕ) (e : End H) (r : Option (Bor (List X))) → slice_get ends i ≡ Some e → from ≡ length (items_of (take i (sections_in ends xs).complete))
-      → IsGetRangeResult xs from e.end r
-      → option_map (λ (p : Bor (List X)). p.now) r ≡ option_map (λ (s : Section H X). s.items) (slice_get (sections_in ends xs).complete i)
-  section_kept i from e r there start found =
-      let low = slice_get_within ends i e there in
-      let is : get_or ends i e ≡ e = get_or_from_slice_get ends i e e there in
-      let up = climbs_at end_of 0 ends i e lie.0 low in
-      let begins : last_end end_of 0 (take i ends) ≡ from = start_kept i ∙ sym start in
-      got_part xs from e.end r (omega (arith, begins, up.0, ap end_of is)) (omega (arith, up.1, lie.1, ap end_of is)) found
-      ∙ ap₂ (λ (n : ℕ) (d : End H). Some (part n d.end xs)) (sym begins) (sym is)
-      ∙ sym (ap (option_map (λ (s : Section H X). s.items)) (nth_cut end_of as_section 0 ends xs i e low))
+  module _ (i from : ℕ) (e : End H) (there : slice_get ends i ≡ Some e) (start : from ≡ length (items_of (take i (sections_in ends xs).complete))) where
+    low : i < length ends
+    low = slice_get_within ends i e there
+
+    is : get_or ends i e ≡ e
+    is = get_or_from_slice_get ends i e e there
+
+    begins : last_end end_of 0 (take i ends) ≡ from
+    begins = start_kept i ∙ sym start
+
+    -- a section lies within the items
+    pub section_within : (from ≤ e.end) × (e.end ≤ length xs)
+    section_within =
+        let up = climbs_at end_of 0 ends i e lie.0 low in
+        (omega (arith, begins, up.0, ap end_of is), omega (arith, up.1, lie.1, ap end_of is))
+
+    -- its items
+    pub section_kept : Some (slice_range xs from e.end) ≡ option_map (λ (s : Section H X). s.items) (slice_get (sections_in ends xs).complete i)
+    section_kept =
+        ap₂ (λ (n : ℕ) (d : End H). Some (part n d.end xs)) (sym begins) (sym is)
+        ∙ sym (ap (option_map (λ (s : Section H X). s.items)) (nth_cut end_of as_section 0 ends xs i e low))

@@ -176,8 +176,10 @@ impl Prefix {
     pub fn owner(&self, variable: u32) -> Option<Letter>
         ensures { result ≡ owner_of (prefix_of self.now).blocks variable }
     {
-        let block = self.level(variable).checked_sub(1)?;
-        self.blocks.head(block)
+        match self.level(variable) {
+            0 => None,
+            level => Some(self.blocks.head(level - 1)),
+        }
     }
 
     // The variable at place i of the prefix order, counted from 0. In constant time.

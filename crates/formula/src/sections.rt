@@ -1,5 +1,5 @@
 // A list in sections, each with a head: the blocks of a prefix, the rows of a matrix.
-ghost use Rattle.std.specs.Prelude.{◌≡◌, ◌-◌, ◌<◌, ◌≤◌, ◌==◌, length, take};
+ghost use Rattle.std.specs.Prelude.{◌≡◌, ◌-◌, ◌<◌, ◌≤◌, ◌==◌, length, take, Some};
 ghost use Rattle.std.specs.Option.{option_map};
 ghost use Rattle.std.specs.List.{slice_get};
 ghost use Rattle.formula.specs.Sections.{all_items, empty, items_of, with_item, with_section};
@@ -95,12 +95,13 @@ where
         self.ends.push(End { head, end });
     }
 
-    // The head of the section i, counted from 0.
-    #[tactic(auto, using(crate::proofs::SectionLemmas::head_kept, crate::proofs::Looked::got))]
-    pub(crate) fn head(&self, i: usize) -> Option<H>
-        ensures { result ≡ option_map (λ s. s.head) (slice_get self.now.complete i) }
+    // The head of the section i, counted from 0, which is there.
+    #[tactic(auto, using(crate::proofs::SectionLemmas::head_kept, crate::proofs::SectionLemmas::count_kept))]
+    pub(crate) fn head(&self, i: usize) -> H
+        requires { i < length self.now.complete }
+        ensures { Some result ≡ option_map (λ s. s.head) (slice_get self.now.complete i) }
     {
-        self.ends.as_slice().get(i).map(|end| end.head)
+        self.ends.as_slice()[i].head
     }
 
     // The head of the last complete section.
@@ -126,7 +127,7 @@ where
         ensures { option_map (λ s. s.now) result ≡ option_map (λ s. s.items) (slice_get self.now.complete i) }
     {
         let end = self.ends.as_slice().get(i)?.end;
-        self.items.as_slice().get(self.start(i)..end)
+        Some(&self.items.as_slice()[self.start(i)..end])
     }
 
     // All items, those of the section that is begun among them.
