@@ -1,6 +1,6 @@
 -- What stays of a record, its ceiling, and whether anything goes, in the words of lists.
-use Rattle.std.proofs.Common.{◌≡◌, ℕ, suc, ◌≤◌, max, Bool, not, cond, ltb, List, [], ◌∷◌, length, map, filter, fold, unwrap_or, refl, ap, ◌∙◌, sym, inl, inr, arith}
-use Rattle.std.specs.List.{reduce}
+use Rattle.std.proofs.Common.{◌≡◌, ℕ, suc, ◌+◌, ◌%◌, ◌^◌, ◌<◌, ◌≤◌, max, Bool, not, cond, ltb, [], ◌∷◌, length, filter, fold, refl, ap, ◌∙◌, inl, inr, arith}
+use Rattle.std.proofs.Math.Nat.{mod-eq_of_lt}
 use Rattle.std.proofs.lemmas.Bool.{cases_Bool, lt-ltb}
 use Rattle.std.proofs.lemmas.Bool.Decides.{nat_tests}
 use Rattle.game.specs.declared.record.Entry.{Entry}
@@ -12,21 +12,29 @@ unfolding kept
 kept_filter f [] = refl
 kept_filter f (e ∷ r) = ap (λ l. cond (f e.variable) (e ∷ l) l) (kept_filter f r)
 
--- the levels of the opponent's variables
-abbrev pub levels : Side → Record → List ℕ
-levels S r = map (λ (e : Entry). S.level e.variable) (filter (λ (e : Entry). not (S.mine e.variable)) r)
-
-fold_max : (a : ℕ) (xs : List ℕ) → fold max a xs ≡ max a (unwrap_or (reduce max xs) 0)
-fold_max a [] = omega arith
-fold_max a (x ∷ xs) = omega (arith, fold_max (max a x) xs, fold_max x xs)
-
-pub ceiling_max : (S : Side) (r : Record) → ceiling S r ≡ unwrap_or (reduce max (levels S r)) 0
+-- what folding the levels of the opponent's variables into a ceiling comes to
+higher_fold : (S : Side) (a : ℕ) (r : Record) → fold (λ n (e : Entry). cond (S.mine e.variable) n (max n (S.level e.variable))) a r ≡ max a (ceiling S r)
 unfolding ceiling
-ceiling_max S [] = refl
-ceiling_max S (e ∷ r) = elim (cases_Bool (S.mine e.variable)) [
-  | inl t ↦ rw t (ceiling_max S r)
-  | inr t ↦ rw t (ap (max (S.level e.variable)) (ceiling_max S r) ∙ sym (fold_max (S.level e.variable) (levels S r)))
+higher_fold S a [] = omega arith
+higher_fold S a (e ∷ r) = elim (cases_Bool (S.mine e.variable)) [
+  | inl t ↦ rw t (higher_fold S a r)
+  | inr t ↦ rw t (omega (arith, higher_fold S (max a (S.level e.variable)) r))
 ]
+
+pub ceiling_fold : (S : Side) (r : Record) → fold (λ n (e : Entry). cond (S.mine e.variable) n (max n (S.level e.variable))) 0 r ≡ ceiling S r
+ceiling_fold S r = omega (arith, higher_fold S 0 r)
+
+-- what counting what stays into a number comes to, where the sum can't wrap
+more_fold : (f : ℕ → Bool) (a : ℕ) (r : Record) → a + length r < 2 ^ 64 → fold (λ n (e : Entry). (n + cond (f e.variable) 1 0) % 2 ^ 64) a r ≡ a + length (kept f r)
+unfolding kept
+more_fold f a [] fits = omega arith
+more_fold f a (e ∷ r) fits = elim (cases_Bool (f e.variable)) [
+  | inl t ↦ rw t (rw (mod-eq_of_lt {n = a + 1} {m = 2 ^ 64} (omega (arith, fits))) (omega (arith, more_fold f (a + 1) r (omega (arith, fits)))))
+  | inr t ↦ rw t (rw (mod-eq_of_lt {n = a + 0} {m = 2 ^ 64} (omega (arith, fits))) (omega (arith, more_fold f (a + 0) r (omega (arith, fits)))))
+]
+
+pub kept_fold : (f : ℕ → Bool) (r : Record) → length r < 2 ^ 64 → fold (λ n (e : Entry). (n + cond (f e.variable) 1 0) % 2 ^ 64) 0 r ≡ length (kept f r)
+kept_fold f r fits = omega (arith, more_fold f 0 r (omega (arith, fits)))
 
 -- a record gets shorter exactly where a variable goes
 kept_short : (f : ℕ → Bool) (r : Record) → length (kept f r) ≤ length r

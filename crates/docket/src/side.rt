@@ -31,7 +31,10 @@ impl<'a> Side<'a> {
     pub(crate) fn mine(&self, variable: u32) -> bool
         ensures { result ≡ (seen self.now).mine variable }
     {
-        self.formula.owner(variable) == Some(self.own)
+        let own = self.own;
+        self.formula
+            .owner(variable)
+            .is_some_and(|letter| own == letter)
     }
 
     // The place of the variable's block, from 1; 0 where it is unbound: a number for the rules to compare, as in the prefix.
