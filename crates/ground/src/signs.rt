@@ -57,8 +57,9 @@ impl Signs {
     fn has(&self, literal: Literal) -> bool
         ensures { result ≡ has_sign self.now literal }
     {
+        let wanted = Sign::of(literal.positive);
         let sign = self.by_variable.get(literal.variable as usize);
-        sign.copied() == Some(Sign::of(literal.positive))
+        sign.is_some_and(|sign| *sign == wanted)
     }
 
     // Whether every literal of the row stands in it.
