@@ -107,11 +107,11 @@ impl Matrix {
     }
 
     // How many literals the complete rows have.
-    #[tactic(auto, using(crate::proofs::Rows::literals_kept))]
+    #[tactic(auto, using(crate::proofs::Rows::literals_kept, std::proofs::lemmas::List::take_all))]
     pub fn literals(&self) -> usize
         ensures { result ≡ length (all_literals (matrix_of self.now).rows) }
     {
-        self.rows.complete().len()
+        self.rows.start(self.rows.len())
     }
 
     // The literals of row i, counted from 0. In constant time.

@@ -114,7 +114,7 @@ where
 
     // Where the section i begins among the items, if there are so many.
     #[tactic(auto, using(crate::proofs::SectionLemmas::start_kept, crate::proofs::Parts::last_or))]
-    fn start(&self, i: usize) -> usize
+    pub(crate) fn start(&self, i: usize) -> usize
         requires { i ≤ length self.now.complete }
         ensures { result ≡ length (items_of (take i self.now.complete)) }
     {

@@ -2,6 +2,7 @@
 ghost use Rattle.std.specs.Prelude.{◌≡◌};
 ghost use Rattle.formula.specs.Formula.{row_bound};
 ghost use Rattle.formula.specs.Prefix.{has_var, order};
+ghost use Rattle.game.specs.Grounds.{leaf_over};
 ghost use Rattle.game.specs.Leaves.{rising};
 
 use crate::whole::Whole;
@@ -28,4 +29,11 @@ pub fn rises(leaf: &[Literal]) -> bool
         last = literal.variable;
     }
     true
+}
+
+// Both: whether it is a leaf over the formula.
+pub(crate) fn is_leaf<F: Whole>(formula: &F, leaf: &[Literal]) -> bool
+    ensures { result ≡ leaf_over (F.Whole.formula formula.now) leaf.now }
+{
+    all_bound(formula, leaf) && rises(leaf)
 }

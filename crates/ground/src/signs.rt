@@ -5,7 +5,7 @@ ghost use Rattle.game.specs.Grounds.{has_literal, leaf_over, some_literal};
 ghost use Rattle.game.specs.Leaves.{each_literal};
 ghost use Rattle.ground.specs.Signs.{has_sign, sign_of};
 
-use crate::leaves::{all_bound, rises};
+use crate::leaves::is_leaf;
 use crate::whole::Whole;
 use formula::letter::Literal;
 use formula::limits::MARKS;
@@ -43,7 +43,7 @@ impl Signs {
         ensures leaf { is_some result ≡ leaf_over (F.Whole.formula formula.now) leaf.now }
         ensures told { IfSome result (λ signs. (l : Literal) → has_sign signs l ≡ has_literal leaf.now l) }
     {
-        if !all_bound(formula, leaf) || !rises(leaf) {
+        if !is_leaf(formula, leaf) {
             return None;
         }
         let mut by_variable = [Sign::Absent; MARKS];
