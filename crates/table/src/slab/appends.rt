@@ -4,8 +4,8 @@ ghost use Rattle.table.specs.Entries.{entries, free, Grown, Longer};
 ghost use Rattle.table.specs.Joins.{join_but, part};
 
 use super::Table;
-use super::filling::{fill, fill_joined, fill_kept};
-use crate::join::{Keyed, Span};
+use super::filling::{fill, fill_kept};
+use crate::join::{Keyed, Span, SpanWalk};
 
 impl<'a, T: Copy> Table<'a, T> {
     // Appends what the iterator gives, as far as there is room. Whatever it gives, the entries that were there stay.
@@ -36,7 +36,13 @@ impl<'a, T: Keyed> Table<'a, T> {
     pub fn append_joined(&mut self, without: u32, first: Span, second: Span)
         ensures { Grown self.old (take (length (free self.old)) (join_but T.key T.joined without (part first (entries self.old)) (part second (entries self.old)))) self.new }
     {
-        let used = self.len();
-        self.len = used + fill_joined(self.slots, used, without, first, second);
+        let len = self.len();
+        let mut walk = SpanWalk::new(first.below(len), second.below(len));
+        while let Some(met) = walk.next(self.as_slice()) {
+            let entry = met.joined();
+            if entry.key() != without {
+                let _ = self.push(entry);
+            }
+        }
     }
 }

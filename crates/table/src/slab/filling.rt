@@ -1,9 +1,9 @@
 ghost use Rattle.std.specs.Prelude.{◌≡◌, ◌+◌, ◌≤◌, Bool, List, drop, filter, length, take};
 ghost use Rattle.std.specs.Iterator.{ActsAsAt, AlwaysYields, IsFinite};
 ghost use Rattle.table.specs.Entries.{Filled};
-ghost use Rattle.table.specs.Joins.{join_but, part};
+ghost use Rattle.table.specs.Joins.{part};
 
-use crate::join::{Keyed, Meeting, Span, Walk};
+use crate::join::Span;
 
 // Writes what the iterator gives into the slots, from the first on, as far as there are slots, and tells how many it filled.
 // The place is counted by hand: of what the closure of a chain writes into the slots, a proof knows nothing afterwards.
@@ -22,10 +22,10 @@ pub(super) fn fill<T: Copy, I: Iterator<Item = T>>(slots: &mut [T], items: I) ->
     filled
 }
 
-// The next two take the slots and not their table. As parts of a table's methods they were tried, and the proof did not close: what
-// `self.slots.split_at_mut(..)` leaves in `self.slots` is not known there.
-
 // Fills the slots from place `used` on with the elements of a part before it that pass the test.
+//
+// It takes the slots and not their table. As part of a table's method it was tried, and the proof did not close: what
+// `self.slots.split_at_mut(..)` leaves in `self.slots` is not known there.
 pub(super) fn fill_kept<T: Copy, F: FnMut(&T) -> bool>(
     slots: &mut [T],
     used: usize,
@@ -41,25 +41,4 @@ pub(super) fn fill_kept<T: Copy, F: FnMut(&T) -> bool>(
 {
     let (entries, free) = slots.split_at_mut(used);
     fill(free, span.of(entries).iter().copied().filter(keep))
-}
-
-// Fills the slots from place `used` on with the join of two parts before it, but for the key `without`.
-pub(super) fn fill_joined<T: Keyed>(
-    slots: &mut [T],
-    used: usize,
-    without: u32,
-    first: Span,
-    second: Span,
-) -> usize
-    requires within { used ≤ length slots.old }
-    ensures room { used + result ≤ length slots.old }
-    ensures front { take used slots.new ≡ take used slots.old }
-    ensures back { Filled (drop used slots.old) (join_but T.key T.joined without (part first (take used slots.old)) (part second (take used slots.old))) result (drop used slots.new) }
-{
-    let (entries, free) = slots.split_at_mut(used);
-    let entries: &[T] = entries;
-    let joined = Walk::new(first.of(entries), second.of(entries))
-        .map(Meeting::joined)
-        .filter(|entry| entry.key() != without);
-    fill(free, joined)
 }
