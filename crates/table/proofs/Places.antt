@@ -1,13 +1,14 @@
--- A step of a walk by places: what the same step does of a walk over the two parts.
-use Rattle.std.proofs.Common.{◌≡◌, ℕ, ◌+◌, ◌-◌, ◌<◌, ◌≤◌, List, [], ◌∷◌, length, take, drop, Some, sym, refl, ap, ◌∙◌, subst, ap₂, arith, length-take}
+-- A step of a walk by places: what the first entries of its two parts say of their meetings.
+use Rattle.std.proofs.Common.{◌≡◌, ℕ, ◌+◌, ◌-◌, ◌<◌, ◌≤◌, List, [], ◌∷◌, length, take, drop, Some, None, Option, sym, refl, ap, ◌∙◌, subst, ap₂, arith, length-take}
 use Rattle.std.proofs.lemmas.List.{drop-drop}
 use Rattle.std.proofs.lemmas.Slice.{between_is}
+use Rattle.std.specs.List.{slice_get}
 use Rattle.table.specs.declared.join.Meeting.{Meeting}
 use Rattle.table.specs.declared.join.Meeting.TheVariants.{First, Second, Both}
 use Rattle.table.specs.declared.join.Span.{Span}
 use Rattle.table.specs.declared.join.SpanWalk.{SpanWalk}
-use Rattle.table.specs.declared.join.Walk.{Walk}
-use Rattle.table.specs.Joins.{part, past, of_first, of_second, meetings_from, meetings, Stepped, SpansStepped}
+use Rattle.table.specs.Joins.{part, past, of_first, of_second, next_of, meetings_from, meetings, SpansStepped}
+use Rattle.table.proofs.Heads.{Goes, met}
 
 -- what comes after the first n entries of a part
 part_next : {T : Type 0} (xs : List T) (s : Span) (n : ℕ) → drop n (part s xs) ≡ part (past n s) xs
@@ -35,35 +36,39 @@ module _ {T : Type 0} (key : T → ℕ) where
       let same : First x ≡ m = cc in subst (λ k. Takes k (length (x ∷ xs)) 0) same (record { of_one = omega arith; of_other = omega arith; moves = omega arith })
   takes_there (x ∷ xs) (y ∷ ys) m rest is = takes_one m (omega arith) (omega arith)
 
-  -- where a walk over the two parts met m, and so went on in them
-  module _ (xs : List T) (w : SpanWalk) {walk after : Walk T} (first : walk.first.now ≡ part w.first xs) (second : walk.second.now ≡ part w.second xs)
-      (m : Meeting T) (step : Stepped key walk (Some m) after) {n : ℕ × ℕ} (takes : n ≡ (of_first m, of_second m)) where
-    met : meetings key (part w.first xs) (part w.second xs) ≡ m ∷ meetings key after.first.now after.second.now
-    met = ap₂ (meetings key) (sym first) (sym second) ∙ step.cases.0
+  -- where x and y are the first entries of a walk's two parts
+  module _ (xs : List T) (w : SpanWalk) {x y : Option T} (first : x ≡ slice_get (part w.first xs) 0) (second : y ≡ slice_get (part w.second xs) 0)
+      {r : Option (Meeting T)} (next : r ≡ next_of key x y) where
+    pub at_end : r ≡ None → SpansStepped key xs w None w
+    at_end is = record { cases = (met key (part w.first xs) (part w.second xs) first second None next is, refl); first_end = refl; second_end = refl }
 
-    there : Takes m (length (part w.first xs)) (length (part w.second xs))
-    there = takes_there (part w.first xs) (part w.second xs) m _ met
+    -- where they meet in m, which takes the first of them
+    module _ (m : Meeting T) (is : r ≡ Some m) {n : ℕ × ℕ} (takes : n ≡ (of_first m, of_second m)) where
+      goes : Goes key (part w.first xs) (part w.second xs) m
+      goes = met key (part w.first xs) (part w.second xs) first second (Some m) next is
 
-    pub first_below : n.0 ≤ w.first.to - w.first.from
-    first_below = omega (arith, ap (λ (p : ℕ × ℕ). p.0) takes, there.of_one, length-take (w.first.to - w.first.from) (drop w.first.from xs))
+      there : Takes m (length (part w.first xs)) (length (part w.second xs))
+      there = takes_there (part w.first xs) (part w.second xs) m _ goes
 
-    pub second_below : n.1 ≤ w.second.to - w.second.from
-    second_below = omega (arith, ap (λ (p : ℕ × ℕ). p.1) takes, there.of_other, length-take (w.second.to - w.second.from) (drop w.second.from xs))
+      first_below : n.0 ≤ w.first.to - w.first.from
+      first_below = omega (arith, ap (λ (p : ℕ × ℕ). p.0) takes, there.of_one, length-take (w.first.to - w.first.from) (drop w.first.from xs))
 
-    stepped : SpansStepped key xs w (Some m) (record { first = past n.0 w.first; second = past n.1 w.second })
-    stepped = record {
-      cases = (
-        met
-            ∙ ap₂ (λ k l. m ∷ meetings key k l)
-            (step.cases.1 ∙ ap₂ drop (ap (λ (p : ℕ × ℕ). p.0) (sym takes)) first ∙ part_next xs w.first n.0)
-            (step.cases.2 ∙ ap₂ drop (ap (λ (p : ℕ × ℕ). p.1) (sym takes)) second ∙ part_next xs w.second n.1),
-        omega (arith, first_below, second_below, there.moves, ap (λ (p : ℕ × ℕ). p.0) takes, ap (λ (p : ℕ × ℕ). p.1) takes),
-      );
-      first_end = refl;
-      second_end = refl;
-    }
+      second_below : n.1 ≤ w.second.to - w.second.from
+      second_below = omega (arith, ap (λ (p : ℕ × ℕ). p.1) takes, there.of_other, length-take (w.second.to - w.second.from) (drop w.second.from xs))
 
-    pub steps_on : {s t : Span} → s ≡ past n.0 w.first → t ≡ past n.1 w.second → SpansStepped key xs w (Some m) (record { first = s; second = t })
-    steps_on s_is t_is =
-        let P : SpanWalk → Type 0 = SpansStepped key xs w (Some m) in
-        subst P (sym (ap₂ (λ (s t : Span). record { first = s; second = t }) s_is t_is)) stepped
+      stepped : SpansStepped key xs w (Some m) (record { first = past n.0 w.first; second = past n.1 w.second })
+      stepped = record {
+        cases = (
+          goes
+              ∙ ap (λ (p : ℕ × ℕ). m ∷ meetings key (drop p.0 (part w.first xs)) (drop p.1 (part w.second xs))) (sym takes)
+              ∙ ap₂ (λ k l. m ∷ meetings key k l) (part_next xs w.first n.0) (part_next xs w.second n.1),
+          omega (arith, first_below, second_below, there.moves, ap (λ (p : ℕ × ℕ). p.0) takes, ap (λ (p : ℕ × ℕ). p.1) takes),
+        );
+        first_end = refl;
+        second_end = refl;
+      }
+
+      pub steps_on : {s t : Span} → s ≡ past n.0 w.first → t ≡ past n.1 w.second → SpansStepped key xs w (Some m) (record { first = s; second = t })
+      steps_on s_is t_is =
+          let P : SpanWalk → Type 0 = SpansStepped key xs w (Some m) in
+          subst P (sym (ap₂ (λ (s t : Span). record { first = s; second = t }) s_is t_is)) stepped

@@ -1,9 +1,22 @@
 ghost use Rattle.std.specs.Prelude.{◌≡◌, ◌-◌, ◌≤◌};
-ghost use Rattle.table.specs.Joins.{past, SpansStepped};
+ghost use Rattle.std.specs.List.{slice_get};
+ghost use Rattle.table.specs.Joins.{part, past, SpansStepped};
 
-use super::{Keyed, Meeting, Span, SpanWalk, Walk};
+use super::meets::meet;
+use super::{Keyed, Meeting, Span, SpanWalk};
 
 impl Span {
+    // The first entry of the part that it names.
+    fn head<T: Copy>(self, all: &[T]) -> Option<T>
+        ensures { result ≡ slice_get (part self all.now) 0 }
+    {
+        if self.from < self.to {
+            all.get(self.from).copied()
+        } else {
+            None
+        }
+    }
+
     // The places of it but for the first `n`.
     fn past(self, n: usize) -> Span
         requires { n ≤ self.to - self.from }
@@ -29,8 +42,7 @@ impl SpanWalk {
     pub fn next<T: Keyed>(&mut self, all: &[T]) -> Option<Meeting<T>>
         ensures { SpansStepped T.key all.now self.old result self.new }
     {
-        let mut walk = Walk::new(self.first.of(all), self.second.of(all));
-        let met = walk.next()?;
+        let met = meet(self.first.head(all), self.second.head(all))?;
         let (first, second) = met.takes();
         self.first = self.first.past(first);
         self.second = self.second.past(second);
