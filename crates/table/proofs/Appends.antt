@@ -21,15 +21,13 @@ module _ {T : Type 0} (key : T → ℕ) (both : T → T → T) (p : ℕ) (before
     goes_on : done ++ to_come key both p (entries before) w ≡ join_but key both p (part first (entries before)) (part second (entries before))
 
   -- before the first turn, where the walk is to go over the two parts as far as the entries reach
-  pub begins : {w : SpanWalk} {n : ℕ} → n ≡ length (entries before) → w.first ≡ below n first → w.second ≡ below n second → Appending w before
-  begins {w} {n} count first-is second_is =
-      let front : part w.first (entries before) ≡ part first (entries before)
-      = ap (λ s. part s (entries before)) (first-is ∙ ap (λ k. below k first) count) ∙ part_below (entries before) first in
-      let back : part w.second (entries before) ≡ part second (entries before)
-      = ap (λ s. part s (entries before)) (second_is ∙ ap (λ k. below k second) count) ∙ part_below (entries before) second in
+  pub begins : {w : SpanWalk} → w.first ≡ below (length (entries before)) first → w.second ≡ below (length (entries before)) second → Appending w before
+  begins {w} first-is second_is =
+      let front : part w.first (entries before) ≡ part first (entries before) = ap (λ s. part s (entries before)) first-is ∙ part_below (entries before) first in
+      let back : part w.second (entries before) ≡ part second (entries before) = ap (λ s. part s (entries before)) second_is ∙ part_below (entries before) second in
       record {
-        first_within = omega (arith, count, ap (λ (s : Span). s.to) first-is);
-        second_within = omega (arith, count, ap (λ (s : Span). s.to) second_is);
+        first_within = omega (arith, ap (λ (s : Span). s.to) first-is);
+        second_within = omega (arith, ap (λ (s : Span). s.to) second_is);
         done = [];
         grown = subst (λ l. Grown before l before) (sym (take_all (length (free before)) [] (omega arith))) (grown_none before);
         goes_on = sym (join_but_met key both p (entries before) w) ∙ ap₂ (join_but key both p) front back;

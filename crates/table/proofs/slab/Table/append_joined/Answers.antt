@@ -1,10 +1,9 @@
-use Rattle.std.proofs.Common.{◌∙◌}
+use Rattle.std.proofs.Common.{rules}
 use Rattle.table.proofs.Appends.{begins, appended, left_out, all_appended}
 use Rattle.table.proofs.slab.Table.append_joined.Goals as goal
 
 pub loop-met-init : goal.loop-met-init
-loop-met-init g c =
-    begins _ _ _ _ _ _ c.len-len.ensures (c.new-walk.ensures.first ∙ c.below.ensures) (c.new-walk.ensures.second ∙ c.below-2.ensures)
+loop-met-init g c = begins _ _ _ c.args.self.now c.args.first c.args.second (search rules) (search rules)
 
 pub loop-met-preserved-then-key-without : goal.loop-met-preserved-then-key-without
 loop-met-preserved-then-key-without g c =
