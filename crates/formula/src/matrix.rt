@@ -106,7 +106,7 @@ impl Matrix {
         Ok(())
     }
 
-    // How many literals the complete rows have.
+    // How many literals the complete rows have: the row that is being read begins behind them.
     #[tactic(auto, using(crate::proofs::Rows::literals_kept, std::proofs::lemmas::List::take_all))]
     pub fn literals(&self) -> usize
         ensures { result ≡ length (all_literals (matrix_of self.now).rows) }

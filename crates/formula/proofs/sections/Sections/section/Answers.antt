@@ -1,5 +1,5 @@
-use Rattle.std.proofs.Common.{sym, ap, ◌∙◌, length, take, arith}
-use Rattle.std.specs.List.{slice_get}
+use Rattle.std.proofs.Common.{Some, sym, ap, ◌∙◌, length, take, arith}
+use Rattle.std.specs.List.{slice_get, slice_range}
 use Rattle.std.specs.Option.{option_copied, option_map}
 use Rattle.std.proofs.lemmas.Bool.Decides.{nat_tests}
 use Rattle.std.proofs.lemmas.Option.{slice_get_past}
@@ -47,6 +47,6 @@ returns g c =
     let s = c.self.inside in
     let there = sym (ap (λ l. slice_get l c.args.i) c.as_slice.ensures.value) ∙ sym (got c.as_slice.result.now c.args.i c.get.result c.get.ensures.lookup) ∙ ap option_copied c.in_ok-end.was in
     let start = c.start.ensures ∙ ap (λ (m : Sections g.row.H.Denot g.row.X.Denot). length (items_of (take c.args.i m.complete))) (sym c.self.view_is) in
-    rw c.as_slice-2.ensures.value
-    (section_kept s.ends s.items c.self.invariant c.args.i c.start.result c.in_ok-end.field-0.now there start
-    ∙ ap (λ (m : Sections g.row.H.Denot g.row.X.Denot). option_map (λ (t : Section g.row.H.Denot g.row.X.Denot). t.items) (slice_get m.complete c.args.i)) c.self.view_is)
+    ap (λ l. Some (slice_range l c.start.result c.in_ok-end.field-0.now.end)) c.as_slice-2.ensures.value
+    ∙ section_kept s.ends s.items c.self.invariant c.args.i c.start.result c.in_ok-end.field-0.now there start
+    ∙ ap (λ (m : Sections g.row.H.Denot g.row.X.Denot). option_map (λ (t : Section g.row.H.Denot g.row.X.Denot). t.items) (slice_get m.complete c.args.i)) c.self.view_is
